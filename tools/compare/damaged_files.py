@@ -69,6 +69,8 @@ COMMANDS = [
     ["run", "image", "script", "made", "made.audit", *TRACED],
     ["account", "trace"],
     ["account", "trace", "image", "--sort=sum", "--sortorder=desc", "--format=csv"],
+    ["calls", "trace"],
+    ["calls", "trace", "image", "--sort=self", "--sortorder=desc", "--top=3", "--format=csv"],
     ["stack", "trace", "image"],
     ["stack", "trace", "--format=flame"],
     ["stack", "trace", "--format=svg"],

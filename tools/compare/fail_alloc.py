@@ -61,6 +61,8 @@ COMMANDS = {
     "run of long threads": f"run {TURNS} trace audit {BUFFERS} 10",
     "account": "account calls.trace",
     "account with an image": "account calls.trace call.xrim --sort sum --sortorder desc --top 1 --format csv",
+    "calls": "calls calls.trace",
+    "calls with an image": "calls calls.trace call.xrim --sort duration --sortorder desc --top 1 --format csv",
     "stack": "stack calls.trace",
     "stack with an image": "stack calls.trace call.xrim --format flame",
     "stack as a picture": "stack calls.trace call.xrim --format svg",

@@ -4,8 +4,8 @@
 usage: tools/compare/random_runs.py [PROGRAM] [--with COMMANDS] [--of COMMAND] [--lines] [--loops] [--runs N] [--seed N]
            [--jobs N]
     PROGRAM: the built program, crates/xray/out/xray if left out
-    --with: which of sim, run, account, stack, convert, check, soak and profile PROGRAM has, with commas between them; all if left
-        out. Without sim, a replay has three files and writes no trace
+    --with: which of sim, run, account, calls, stack, convert, check, soak and profile PROGRAM has, with commas between them; all
+        if left out. Without sim, a replay has three files and writes no trace
     --of: only this command
     --lines: only random command lines, over sound files (random_lines.py)
     --loops: runs of long loops that are patched all the time (random_loops.py)

@@ -64,21 +64,30 @@ WRONG_TRACE_WORDS = [
     "--tsc=-1", "--buffer-size=1048576", "--size=88",
 ]  # fmt: skip
 SIZES = [88, 88, 89, 95, 96, 97, 104, 111, 112, 120, 200, 200, 1000, 16_384]
+ROW_VALUES = {"sortorder": ["asc", "desc"], "top": [0, 1, 2, 3, 10, LARGEST_32]}
 REPORT_VALUES = {
-    "sort": ["funcid", "count", "min", "med", "90p", "99p", "max", "sum"],
-    "sortorder": ["asc", "desc"],
-    "top": [0, 1, 2, 3, 10, LARGEST_32],
-    "format": ["text", "csv"],
+    "account": {"sort": ["funcid", "count", "min", "med", "90p", "99p", "max", "sum"], **ROW_VALUES},
+    "calls": {
+        "sort": ["end", "call", "start", "duration", "self", "depth"],
+        "function": [0, 1, 1, 2, 2, 3, LARGEST_32],
+        "thread": [0, 1, 1, 2, 2, 3, LARGEST_32],
+        "least": [0, 1, 2, 10, 1000, LARGEST_32 + 1, LARGEST_64],
+        **ROW_VALUES,
+    },
 }
+# Options that leave rows out.
+SELECTIONS = ("function", "thread", "least")
 FORMATS = {
     "account": ["text", "csv"],
+    "calls": ["text", "csv"],
     "stack": ["human", "flame", "svg"],
     "convert": ["yaml", "trace-event", "basic"],
     "profile": ["human", "flame", "svg"],
 }
 WRONG_REPORT_WORDS = [
     "--sort=func", "--sort", "--sort=", "--sort=Count", "--sortorder=dsc", "--sortorder=ascending", "--top=-1",
-    "--top=4294967296",
+    "--top=4294967296", "--sort=durations", "--sort=own", "--function=4294967296", "--function=f", "--thread=-1", "--least=-1",
+    "--least=18446744073709551616",
     "--format=json", "--format=yaml", "--format=text", "--format=flame", "--instr_map=i", "-instr_map=i", "--threads=1",
     "--format", "--top",
 ]  # fmt: skip
@@ -137,11 +146,10 @@ def profile_options(draw, threads):
 
 def report_options(draw, command):
     options = [option(draw, "format", draw.choice(FORMATS[command]))] if draw.random() < 0.7 else []
-    if command == "account":
-        for name in ("sort", "sortorder", "top"):
-            if draw.random() < 0.5:
-                value = draw.choice(REPORT_VALUES[name])
-                options.append(option(draw, name, spelled(draw, value) if name == "top" else value))
+    for name, values in REPORT_VALUES.get(command, {}).items():
+        if draw.random() < (0.2 if name in SELECTIONS else 0.5):
+            value = draw.choice(values)
+            options.append(option(draw, name, value if isinstance(value, str) else spelled(draw, value)))
     if command == "convert" and draw.random() < 0.4:
         options.append(option(draw, "input", draw.choice(["fdr", "basic", "basic"])))
     if draw.random() < 0.04:
@@ -163,7 +171,7 @@ def random_options(draw, command, threads, writes_traces):
             return trace_options(draw, threads)
         case "plain" | "sim":
             return run_options(draw, threads)
-        case "account" | "stack" | "convert":
+        case "account" | "calls" | "stack" | "convert":
             return report_options(draw, command)
     return []
 
@@ -259,7 +267,7 @@ def random_contents(draw, command, threads):
         case "order":
             image, script, _, audit = check_contents(draw, threads)
             return [image, script, audit]
-        case "account" | "stack" | "convert":
+        case "account" | "calls" | "stack" | "convert":
             images = [random_image(draw, KINDS["names"], 0.2)] if draw.random() < 0.4 else []
             return [random_log(draw) if command == "convert" and draw.random() < 0.3 else random_trace(draw), *images]
         case "fdr-dump":

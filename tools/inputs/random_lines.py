@@ -20,6 +20,7 @@ NAMES = {
     "sim": [b"i", b"s", b"c", b"new", b"new 2"],
     "run": [b"i", b"s", b"new", b"new 2"],
     "account": [b"t", b"i"],
+    "calls": [b"t", b"i"],
     "stack": [b"t", b"i"],
     "convert": [b"t", b"i"],
     "fdr-dump": [b"t"],

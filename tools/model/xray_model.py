@@ -14,6 +14,7 @@ import re
 
 from . import check_model, import_model, map_model, order_model, profile_model, run_model, soak_model
 from .asm_model import assembled
+from .calls_model import calls_text
 from .forms_model import basic_bytes, basic_trace, dump_text, events_text
 from .image_container import RELATIVE_VERSION
 from .image_model import Refused, image_of, sled_map_text
@@ -131,6 +132,13 @@ ACCOUNT_OPTIONS = {
     "format": Choice("text", "csv"),
     "map": FileName(),
 }
+CALLS_OPTIONS = {
+    **ACCOUNT_OPTIONS,
+    "sort": Choice("end", "call", "start", "duration", "self", "depth"),
+    "function": Numbers(0, NUMBER_LIMIT, None),
+    "thread": Numbers(0, NUMBER_LIMIT, None),
+    "least": Numbers(0, LARGEST_64, 0),
+}
 
 TRACE_AND_IMAGE = range(1, 3)
 FORMS = {
@@ -140,6 +148,7 @@ FORMS = {
     "sim": Form(range(5, 6), (3, 4), TRACE_OPTIONS),
     "run": Form(range(4, 5), (2, 3), TRACE_OPTIONS),
     "account": Form(TRACE_AND_IMAGE, (), ACCOUNT_OPTIONS),
+    "calls": Form(TRACE_AND_IMAGE, (), CALLS_OPTIONS),
     "stack": Form(TRACE_AND_IMAGE, (), {"format": Choice("human", "flame", "svg"), "map": FileName()}),
     "convert": Form(
         TRACE_AND_IMAGE,
@@ -154,7 +163,7 @@ FORMS = {
     "profile": Form(range(2, 3), (), PROFILE_OPTIONS),
 }
 # Commands that a program may lack.
-LATER = ("sim", "run", "account", "stack", "convert", "fdr-dump", "check", "order", "import", "soak", "profile")
+LATER = ("sim", "run", "account", "calls", "stack", "convert", "fdr-dump", "check", "order", "import", "soak", "profile")
 # `sim` of a program that writes no traces: it only prints the state texts.
 REPLAY = Form(range(3, 4), (), RUN_OPTIONS)
 
@@ -388,7 +397,7 @@ def convert_text(trace, names, options):
             return basic_bytes(trace)
 
 
-REPORTS = {"account": account_text, "stack": stack_text, "convert": convert_text}
+REPORTS = {"account": account_text, "calls": calls_text, "stack": stack_text, "convert": convert_text}
 
 
 def taken_names(world, images, map_name):

@@ -16,7 +16,7 @@ use Rattle.stack_rebuild.specs.Histories.{history_of_thread, pairs_after, pairs_
 use Rattle.stack_rebuild.specs.PairLaws.{IsWholeCall, event_at, innermost_entry, no_event}
 use Rattle.stack_rebuild.specs.Stacks.{open_before}
 use Rattle.call_rows.specs.CallRowLaws.{Encloses, HasItsParent, is_open_at}
-use Rattle.call_rows.specs.CallRows.{number_at}
+use Rattle.call_rows.specs.CallRows.{event_number_at}
 use Rattle.call_rows.proofs.FoldSteps.{each_more, of_thread-pairs, of_threads}
 use Rattle.call_rows.proofs.NestedEntries.{Nests, nests, nests_from, one_more}
 use Rattle.call_rows.proofs.RowsStay.{AllWhole, Each, each_of_all}
@@ -146,8 +146,8 @@ encloses events pair whole call outer opens =
 -- by the calls that are open just before the entry
 abbrev HasParentIn : List ThreadEvent → ℕ → Pair → List Call → Type 0
 HasParentIn h thread pair outer =
-    MatchOption (option_map (number_at h thread) (innermost_entry outer)) (outer ≡ [])
-    (λ parent. (at : ℕ) × (number_at h thread at ≡ parent) × Encloses (reverse (history_of_thread thread h)) at pair)
+    MatchOption (option_map (event_number_at h thread) (innermost_entry outer)) (outer ≡ [])
+    (λ parent. (at : ℕ) × (event_number_at h thread at ≡ parent) × Encloses (reverse (history_of_thread thread h)) at pair)
 
 has_its_parent : (h : List ThreadEvent) (thread : ℕ) (pair : Pair) → IsWholeCall (reverse (history_of_thread thread h)) pair → HasItsParent h (thread_pair thread pair)
 has_its_parent h thread pair whole =

@@ -12,7 +12,7 @@ use Rattle.stack_rebuild.specs.PairLaws.{event_at}
 use Rattle.stack_rebuild.specs.Stacks.{open_before}
 use Rattle.account_report.specs.declared.row.AccountRow.{AccountRow}
 use Rattle.call_rows.specs.declared.row.CallRow.{CallRow}
-use Rattle.call_rows.specs.CallRows.{call_row, call_rows_of, number_at}
+use Rattle.call_rows.specs.CallRows.{call_row, call_rows_of, event_number_at}
 
 -- the rows of a function
 abbrev pub rows_of_function : ℕ → List CallRow → List CallRow
@@ -41,4 +41,4 @@ abbrev pub HasItsParent : List ThreadEvent → ThreadPair → Type 0
 HasItsParent history made =
     let own = reverse (history_of_thread made.thread history) in
     MatchOption (call_row history made).parent (open_before own made.pair.entry ≡ [])
-    (λ parent. (at : ℕ) × (number_at history made.thread at ≡ parent) × Encloses own at made.pair)
+    (λ parent. (at : ℕ) × (event_number_at history made.thread at ≡ parent) × Encloses own at made.pair)

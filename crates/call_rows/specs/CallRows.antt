@@ -33,8 +33,8 @@ abbrev pub numbered_at : List ThreadEvent → ℕ → ℕ → NumberedEvent
 numbered_at history thread at = slice_index_or (reverse (numbered_of_thread thread history)) at no_numbered
 
 -- its number
-abbrev pub number_at : List ThreadEvent → ℕ → ℕ → ℕ
-number_at history thread at = (numbered_at history thread at).number
+abbrev pub event_number_at : List ThreadEvent → ℕ → ℕ → ℕ
+event_number_at history thread at = (numbered_at history thread at).number
 
 -- the argument of an event, if events of its kind log one
 abbrev pub logged_arg : Event → Option ℕ
@@ -50,7 +50,7 @@ call_row history made =
     let outer = open_before own made.pair.entry in
     record {
       call = entry.number;
-      parent = option_map (number_at history made.thread) (innermost_entry outer);
+      parent = option_map (event_number_at history made.thread) (innermost_entry outer);
       thread = made.thread;
       process = entry.pid;
       cpu = entry.event.cpu;
@@ -60,7 +60,7 @@ call_row history made =
       depth = length outer;
       arg = logged_arg entry.event;
       func = made.pair.func;
-      end = number_at history made.thread made.pair.exit;
+      end = event_number_at history made.thread made.pair.exit;
     }
 
 -- a row for each pair, in the order of their exits

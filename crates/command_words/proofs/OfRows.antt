@@ -13,8 +13,8 @@ use Rattle.command_words.specs.Numbers.{number_meant}
 use Rattle.command_words.specs.Reports.{NameSource, ByIds, ByImage, ByMap}
 use Rattle.command_words.specs.Rows.{CommandRow, FileRow, MaybeRead, Numeral, OptionRow, Read, Role, Written}
 use Rattle.command_words.specs.Tables.{report_row}
-use Rattle.command_words.specs.Words.{asm_row, check_row, commands, dump_row, extract_row, import_row, order_row, plain_row, profile_row, run_row, sim_row, soak_row}
-use Rattle.command_words.specs.Words.{Command, Extract, Account, Stack, Convert, Dump, Check, Order, Soak, Import}
+use Rattle.command_words.specs.Words.{asm_row, check_row, commands, dump_row, extract_row, import_row, map_row, order_row, plain_row, profile_row, run_row, sim_row, soak_row}
+use Rattle.command_words.specs.Words.{Command, Extract, Account, Stack, Convert, Dump, Check, Order, Soak, Import, Map, Calls}
 use Rattle.command_words.specs.Words.{InTable, command_by, table_entry, outputs_of, profile_options_in, report_by, run_options_in, with_source}
 use Rattle.command_words.specs.declared.tables.Verb.{Verb}
 use Rattle.command_words.proofs.Arguments.{Each}
@@ -158,6 +158,8 @@ all_lawful =
     ▸ by_places profile_row _ _ (λ line image script options. (refl, refl))
     ▸ by_names soak_row (λ number none. Soak number) (λ line number word none. (refl, refl))
     ▸ by_names import_row (λ log trace none. Import log trace) (λ line log trace none. (refl, refl))
+    ▸ by_names map_row (λ program map none. Map program map) (λ line program map none. (refl, refl))
+    ▸ by_source _ _ _ Calls _ (λ line. refl) (λ trace source options. refl)
     ▸ tt
 
 -- ---- all words

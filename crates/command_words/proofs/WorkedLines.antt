@@ -5,12 +5,13 @@ use Rattle.std.specs.Prelude.{codes, is_some}
 use Rattle.xray_io.specs.declared.wall.Wall.{Wall}
 use Rattle.command_words.specs.Reports.{ByIds, ByImage, ByMap}
 use Rattle.command_words.specs.declared.report_options.AccountFormat.TheVariants.{Text, Csv}
+use Rattle.command_words.specs.declared.report_options.CallColumn.TheVariants as columns
 use Rattle.command_words.specs.declared.report_options.ConvertFormat.TheVariants as formats
 use Rattle.command_words.specs.declared.report_options.InputForm.TheVariants as inputs
 use Rattle.command_words.specs.declared.report_options.SortColumn.TheVariants.{FuncId, Sum}
 use Rattle.command_words.specs.declared.report_options.SortOrder.TheVariants.{Ascending, Descending}
 use Rattle.command_words.specs.declared.report_options.StackFormat.TheVariants as stacks
-use Rattle.command_words.specs.Words.{Command, Sim, Plain, Extract, Asm, Account, Stack, Convert, Dump, Check, Order, Profile, Soak, Import, profile_options_in, reading, run_options_in}
+use Rattle.command_words.specs.Words.{Command, Sim, Plain, Extract, Asm, Account, Stack, Convert, Dump, Check, Order, Profile, Soak, Import, Map, Calls, profile_options_in, reading, run_options_in}
 
 -- a wall time that is passed in
 noon : Wall
@@ -154,3 +155,33 @@ by_map = refl
 -- a log and the trace that is made of it
 imported : says (codes "import l t") ≡ Some (Import (codes "l") (codes "t"))
 imported = refl
+
+-- a program and the map that is made of it
+mapped : says (codes "map p m") ≡ Some (Map (codes "p") (codes "m"))
+mapped = refl
+
+-- calls, with the greatest number that each of its options may have
+called : says (codes "calls t --map m --function=4294967295 --thread 4294967295 --least 18446744073709551615 --sort self --top 0")
+    ≡ Some (Calls (codes "t") (ByMap (codes "m")) (record {
+      function = Some 4294967295;
+      thread = Some 4294967295;
+      least = 18446744073709551615;
+      sort = columns.Own;
+      order = Ascending;
+      top = Some 0;
+      format = Text;
+    }))
+called = refl
+
+-- without options, all calls in the order in which they end
+called_plainly : says (codes "calls t i")
+    ≡ Some (Calls (codes "t") (ByImage (codes "i")) (record {
+      function = None;
+      thread = None;
+      least = 0;
+      sort = columns.End;
+      order = Ascending;
+      top = None;
+      format = Text;
+    }))
+called_plainly = refl

@@ -3,10 +3,13 @@ use Rattle.std.specs.Prelude.{ℕ, List, [], ◌∷◌, Option, Some, None, opti
 use Rattle.command_words.specs.Lines.{Line, number_given, number_if_given, value_in}
 use Rattle.command_words.specs.Made.{◌⊛◌, line_says, no_options}
 use Rattle.command_words.specs.Rows.{OptionRow}
-use Rattle.command_words.specs.Tables.{account_format_option, convert_format_option, input_option, map_option, report_files, sort_option, sort_order_option, top_option}
+use Rattle.command_words.specs.Tables.{account_format_option, call_sort_option, convert_format_option, function_option, input_option, least_option, map_option, report_files, sort_option, sort_order_option, thread_option, top_option}
 use Rattle.command_words.specs.declared.report_options.AccountFormat.{AccountFormat}
 use Rattle.command_words.specs.declared.report_options.AccountFormat.TheVariants.{Text, Csv}
 use Rattle.command_words.specs.declared.report_options.AccountOptions.{AccountOptions}
+use Rattle.command_words.specs.declared.report_options.CallColumn.{CallColumn}
+use Rattle.command_words.specs.declared.report_options.CallColumn.TheVariants.{End, Call, Start, Duration, Own, Depth}
+use Rattle.command_words.specs.declared.report_options.CallsOptions.{CallsOptions}
 use Rattle.command_words.specs.declared.report_options.ConvertFormat.{ConvertFormat}
 use Rattle.command_words.specs.declared.report_options.ConvertFormat.TheVariants as converted
 use Rattle.command_words.specs.declared.report_options.ConvertOptions.{ConvertOptions}
@@ -80,6 +83,10 @@ convert_formats = converted.Yaml ∷ converted.TraceEvents ∷ converted.Basic �
 abbrev pub input_forms : List InputForm
 input_forms = inputs.Fdr ∷ inputs.Basic ∷ []
 
+-- the numbers by which calls are sorted, in the order of their words
+abbrev pub call_columns : List CallColumn
+call_columns = End ∷ Call ∷ Start ∷ Duration ∷ Own ∷ Depth ∷ []
+
 -- all options of a conversion
 abbrev pub convert_options_in : Line → Option ConvertOptions
 convert_options_in line = Some (λ format input. record { format = format; input = input })
@@ -93,4 +100,19 @@ top_in line = number_if_given top_option line
 abbrev pub account_options_in : Line → Option AccountOptions
 account_options_in line = Some (λ sort order top format. record { sort = sort; order = order; top = top; format = format })
     ⊛ choice_in sort_option columns line ⊛ choice_in sort_order_option orders line ⊛ top_in line
+    ⊛ choice_in account_format_option account_formats line
+
+-- all options of `calls`
+abbrev pub calls_options_in : Line → Option CallsOptions
+calls_options_in line = Some (λ function thread least sort order top format. record {
+  function = function;
+  thread = thread;
+  least = least;
+  sort = sort;
+  order = order;
+  top = top;
+  format = format;
+})
+    ⊛ number_if_given function_option line ⊛ number_if_given thread_option line ⊛ number_given least_option line
+    ⊛ choice_in call_sort_option call_columns line ⊛ choice_in sort_order_option orders line ⊛ top_in line
     ⊛ choice_in account_format_option account_formats line

@@ -90,6 +90,25 @@ abbrev pub account_format_option : OptionRow
 account_format_option =
     record { name = codes "format"; values = Listed (codes "text" ∷ codes "csv" ∷ []); default = Some 0 }
 
+-- the function whose calls are printed, and the thread; if one isn't given, those of all are
+abbrev pub function_option : OptionRow
+function_option = record { name = codes "function"; values = Number 0 4294967295; default = None }
+
+abbrev pub thread_option : OptionRow
+thread_option = record { name = codes "thread"; values = Number 0 4294967295; default = None }
+
+-- the least duration of the calls that are printed, in cycles
+abbrev pub least_option : OptionRow
+least_option = record { name = codes "least"; values = Number 0 18446744073709551615; default = Some 0 }
+
+-- the number by which calls are sorted
+abbrev pub call_sort_option : OptionRow
+call_sort_option = record {
+  name = codes "sort";
+  values = Listed (codes "end" ∷ codes "call" ∷ codes "start" ∷ codes "duration" ∷ codes "self" ∷ codes "depth" ∷ []);
+  default = Some 0;
+}
+
 -- the form in which stacks are printed
 abbrev pub stack_format_option : OptionRow
 stack_format_option =

@@ -7,12 +7,13 @@ use Rattle.command_words.specs.Limits.{trace_limit}
 use Rattle.command_words.specs.Lines.{Line, line_of, number_given, number_if_given, outputs_in}
 use Rattle.command_words.specs.Made.{◌⊛◌, line_says, no_options}
 use Rattle.command_words.specs.Numbers.{Number}
-use Rattle.command_words.specs.Reports.{NameSource, account_options_in, choice_in, convert_options_in, image_named, map_named, report_files_in, source_view, stack_formats}
+use Rattle.command_words.specs.Reports.{NameSource, account_options_in, calls_options_in, choice_in, convert_options_in, image_named, map_named, report_files_in, source_view, stack_formats}
 use Rattle.command_words.specs.Rows.{CommandRow, file_read, file_written, number_place}
-use Rattle.command_words.specs.Tables.{account_format_option, bounds_options, buffer_max_option, buffer_size_option, command_row, convert_format_option, cpus_option, frequency_option, fuel_option, input_option, map_version_option, migrate_option, nodes_option, passings_option}
-use Rattle.command_words.specs.Tables.{pid_option, profile_options, relative_map, report_row, run_options, sort_option, sort_order_option, stack_format_option, threads_option, threshold_option, tick_option, top_option, tsc_option, wall_option}
+use Rattle.command_words.specs.Tables.{account_format_option, bounds_options, buffer_max_option, buffer_size_option, call_sort_option, command_row, convert_format_option, cpus_option, frequency_option, fuel_option, function_option, input_option, least_option, map_version_option, migrate_option, nodes_option, passings_option}
+use Rattle.command_words.specs.Tables.{pid_option, profile_options, relative_map, report_row, run_options, sort_option, sort_order_option, stack_format_option, thread_option, threads_option, threshold_option, tick_option, top_option, tsc_option, wall_option}
 use Rattle.command_words.specs.declared.profile_options.ProfileOptions.{ProfileOptions}
 use Rattle.command_words.specs.declared.report_options.AccountOptions.{AccountOptions}
+use Rattle.command_words.specs.declared.report_options.CallsOptions.{CallsOptions}
 use Rattle.command_words.specs.declared.report_options.ConvertOptions.{ConvertOptions}
 use Rattle.command_words.specs.declared.report_options.StackFormat.{StackFormat}
 use Rattle.command_words.specs.declared.tables.Verb.{Verb}
@@ -39,6 +40,8 @@ pub data Command : Type 0 where
   Profile : (image script : List ℕ) → (options : ProfileOptions) → Command
   Soak : (number : ℕ) → Command
   Import : (log trace : List ℕ) → Command
+  Map : (program map : List ℕ) → Command
+  Calls : (trace : List ℕ) → (names : NameSource) → (options : CallsOptions) → Command
 
 -- ---- the options of the commands that run threads
 
@@ -155,10 +158,17 @@ soak_row = command_row (codes "soak") verbs.Soak (number_place (codes "seed") (N
 abbrev pub import_row : CommandRow
 import_row = command_row (codes "import") verbs.Import (file_read (codes "log") ∷ file_written (codes "trace") ∷ []) []
 
+abbrev pub map_row : CommandRow
+map_row = command_row (codes "map") verbs.Map (file_read (codes "program") ∷ file_written (codes "map") ∷ []) []
+
+abbrev pub calls_row : CommandRow
+calls_row = report_row (codes "calls") verbs.Calls
+    (function_option ∷ thread_option ∷ least_option ∷ call_sort_option ∷ sort_order_option ∷ top_option ∷ account_format_option ∷ [])
+
 -- all commands
 abbrev pub commands : List CommandRow
 commands = plain_row ∷ extract_row ∷ sim_row ∷ run_row ∷ asm_row ∷ account_row ∷ stack_row ∷ convert_row ∷ dump_row
-    ∷ check_row ∷ order_row ∷ profile_row ∷ soak_row ∷ import_row ∷ []
+    ∷ check_row ∷ order_row ∷ profile_row ∷ soak_row ∷ import_row ∷ map_row ∷ calls_row ∷ []
 
 -- ---- what lines say
 
@@ -193,6 +203,9 @@ stack_in line = report_by Stack (choice_in stack_format_option stack_formats lin
 abbrev pub convert_in : Line → Option Command
 convert_in line = report_by Convert (convert_options_in line) line
 
+abbrev pub calls_asked_in : Line → Option Command
+calls_asked_in line = report_by Calls (calls_options_in line) line
+
 -- the command that a line of the verb's row says at a wall time, if it says one
 abbrev pub command_by : Verb → Wall → Line → Option Command
 command_by verbs.Plain wall line = plain_in line
@@ -211,6 +224,8 @@ command_by verbs.Order wall line =
 command_by verbs.Profile wall line = profile_in line
 command_by verbs.Soak wall line = line_says soak_row.files (λ number none. Soak number) no_options line
 command_by verbs.Import wall line = line_says import_row.files (λ log trace none. Import log trace) no_options line
+command_by verbs.Map wall line = line_says map_row.files (λ program map none. Map program map) no_options line
+command_by verbs.Calls wall line = calls_asked_in line
 
 -- the row of the command that has this word
 abbrev pub row_with : List ℕ → Option CommandRow
@@ -253,6 +268,8 @@ table_entry (Order image script audit free schedule) = with_names order_row (ima
 table_entry (Profile image script options) = with_names profile_row (image ∷ script ∷ [])
 table_entry (Soak number) = with_names soak_row []
 table_entry (Import log trace) = with_names import_row (log ∷ trace ∷ [])
+table_entry (Map program map) = with_names map_row (program ∷ map ∷ [])
+table_entry (Calls trace source options) = with_source calls_row trace source
 
 -- the names of a command's outputs
 abbrev pub outputs_of : Command → List (List ℕ)
@@ -278,3 +295,5 @@ command_view (command_of.Order image script audit free schedule) =
 command_view (command_of.Profile image script options) = Profile image.now script.now options
 command_view (command_of.Soak number) = Soak number
 command_view (command_of.Import log trace) = Import log.now trace.now
+command_view (command_of.Map program map) = Map program.now map.now
+command_view (command_of.Calls trace names options) = Calls trace.now (source_view names) options

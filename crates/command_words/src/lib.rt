@@ -25,8 +25,8 @@ pub use fdr_buffer::TRACE_LIMIT;
 pub use laws::commands_follow_their_rows;
 pub use profile_options::ProfileOptions;
 pub use report_options::{
-    AccountFormat, AccountOptions, ConvertFormat, ConvertOptions, InputForm, NameSource,
-    SortColumn, SortOrder, StackFormat,
+    AccountFormat, AccountOptions, CallColumn, CallsOptions, ConvertFormat, ConvertOptions,
+    InputForm, NameSource, SortColumn, SortOrder, StackFormat,
 };
 pub use run_options::{Bounds, Buffers, RunOptions, Stamps};
 pub use words::{Command, read_words};

@@ -1,13 +1,14 @@
 //! The files and options of the commands that report on a trace.
 ghost use Rattle.std.specs.Prelude.{◌≡◌, ◌≤◌, IfSome, option_map};
 ghost use Rattle.command_words.specs.Reports.{choice_in, stack_formats};
-ghost use Rattle.command_words.specs.Reports.{account_options_in, convert_options_in, named_by, report_files_in, source_view, top_in};
-ghost use Rattle.command_words.specs.Tables.{stack_format_option};
+ghost use Rattle.command_words.specs.Reports.{account_options_in, calls_options_in, convert_options_in, named_by, report_files_in, source_view, top_in};
+ghost use Rattle.command_words.specs.{Lines.{number_if_given}, Tables.{function_option, stack_format_option, thread_option}};
 ghost use Rattle.command_words.specs.private.CodeViews.{files_view, line_view};
 
 use crate::line::Line;
 use crate::tables::{
-    ACCOUNT_FORMAT, CONVERT_FORMAT, INPUT, MAP, SORT, SORT_ORDER, STACK_FORMAT, TOP,
+    ACCOUNT_FORMAT, CALL_SORT, CONVERT_FORMAT, FUNCTION, INPUT, LEAST, MAP, SORT, SORT_ORDER,
+    STACK_FORMAT, THREAD, TOP,
 };
 
 /// The files of a report.
@@ -90,6 +91,42 @@ pub struct AccountOptions {
     /// The most rows that are printed. `None` means all rows.
     pub top: Option<u32>,
     /// The form in which the account is printed.
+    pub format: AccountFormat,
+}
+
+/// The number by which calls are sorted.
+#[derive(Clone, Copy, Debug)]
+pub enum CallColumn {
+    /// Its place among the ends of calls.
+    End,
+    /// The number of its entry.
+    Call,
+    /// The counter at its entry.
+    Start,
+    /// Its duration.
+    Duration,
+    /// What it took itself.
+    Own,
+    /// How many calls enclose it.
+    Depth,
+}
+
+/// The options of `calls`.
+#[derive(Clone, Copy)]
+pub struct CallsOptions {
+    /// The function whose calls are printed. `None` means all functions.
+    pub function: Option<u32>,
+    /// The thread whose calls are printed. `None` means all threads.
+    pub thread: Option<u32>,
+    /// The least duration of the calls that are printed, in cycles.
+    pub least: u64,
+    /// The number by which the calls are sorted.
+    pub sort: CallColumn,
+    /// The order in which they are sorted.
+    pub order: SortOrder,
+    /// The most calls that are printed. `None` means all calls.
+    pub top: Option<u32>,
+    /// The form in which they are printed.
     pub format: AccountFormat,
 }
 
@@ -206,6 +243,58 @@ pub(crate) fn account_options_in(line: &Line<'_>) -> Option<AccountOptions>
     let top = top_in(line)?;
     let format = ACCOUNT_FORMAT.choice(ACCOUNT_FORMATS, line)?;
     Some(AccountOptions {
+        sort,
+        order,
+        top,
+        format,
+    })
+}
+
+/// The numbers by which calls are sorted, in the order of their words.
+const CALL_COLUMNS: &[CallColumn] = &[
+    CallColumn::End,
+    CallColumn::Call,
+    CallColumn::Start,
+    CallColumn::Duration,
+    CallColumn::Own,
+    CallColumn::Depth,
+];
+
+/// The function whose calls are printed, or none for all. `None` if the value isn't such a number.
+fn function_in(line: &Line<'_>) -> Option<Option<u32>>
+    ensures { result ≡ number_if_given function_option (line_view line.now) }
+{
+    match FUNCTION.number_if_given(line)? {
+        Some(function) => Some(Some(function as u32)),
+        None => Some(None),
+    }
+}
+
+/// The thread whose calls are printed, or none for all. `None` if the value isn't such a number.
+fn thread_in(line: &Line<'_>) -> Option<Option<u32>>
+    ensures { result ≡ number_if_given thread_option (line_view line.now) }
+{
+    match THREAD.number_if_given(line)? {
+        Some(thread) => Some(Some(thread as u32)),
+        None => Some(None),
+    }
+}
+
+/// The options of `calls`. `None` if a value isn't allowed.
+pub(crate) fn calls_options_in(line: &Line<'_>) -> Option<CallsOptions>
+    ensures { result ≡ calls_options_in (line_view line.now) }
+{
+    let function = function_in(line)?;
+    let thread = thread_in(line)?;
+    let least = LEAST.number_given(line)?;
+    let sort = CALL_SORT.choice(CALL_COLUMNS, line)?;
+    let order = SORT_ORDER.choice(ORDERS, line)?;
+    let top = top_in(line)?;
+    let format = ACCOUNT_FORMAT.choice(ACCOUNT_FORMATS, line)?;
+    Some(CallsOptions {
+        function,
+        thread,
+        least,
         sort,
         order,
         top,

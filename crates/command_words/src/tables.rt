@@ -182,6 +182,43 @@ pub(crate) const ACCOUNT_FORMAT: OptionRow = OptionRow {
     default: Some(0),
 };
 
+/// The function whose calls are printed. If it isn't given, those of all functions are.
+pub(crate) const FUNCTION: OptionRow = OptionRow {
+    name: "function",
+    values: Values::Number {
+        least: 0,
+        most: u32::MAX as u64,
+    },
+    default: None,
+};
+
+/// The thread whose calls are printed. If it isn't given, those of all threads are.
+pub(crate) const THREAD: OptionRow = OptionRow {
+    name: "thread",
+    values: Values::Number {
+        least: 0,
+        most: u32::MAX as u64,
+    },
+    default: None,
+};
+
+/// The least duration of the calls that are printed, in cycles.
+pub(crate) const LEAST: OptionRow = OptionRow {
+    name: "least",
+    values: Values::Number {
+        least: 0,
+        most: u64::MAX,
+    },
+    default: Some(0),
+};
+
+/// The number by which calls are sorted.
+pub(crate) const CALL_SORT: OptionRow = OptionRow {
+    name: "sort",
+    values: Values::Listed(&["end", "call", "start", "duration", "self", "depth"]),
+    default: Some(0),
+};
+
 /// The form in which stacks are printed.
 pub(crate) const STACK_FORMAT: OptionRow = OptionRow {
     name: "format",
@@ -281,6 +318,8 @@ pub(crate) enum Verb {
     Profile,
     Soak,
     Import,
+    Map,
+    Calls,
 }
 
 /// `plain IMAGE`: runs an image on each thread, with its sleds only counted.
@@ -433,8 +472,49 @@ const IMPORT: CommandRow = CommandRow {
     beside: &[],
 };
 
+/// `map PROGRAM MAP`: writes the sled map of a compiled program, and prints what it has.
+const MAP_PROGRAM: CommandRow = CommandRow {
+    word: "map",
+    verb: Verb::Map,
+    files: &[Read("program"), Written("map")],
+    options: &[],
+    beside: &[],
+};
+
+/// `calls TRACE [IMAGE]`: prints the calls of a trace, one by one.
+const CALLS: CommandRow = CommandRow {
+    word: "calls",
+    verb: Verb::Calls,
+    files: REPORT_FILES,
+    options: &[
+        MAP,
+        FUNCTION,
+        THREAD,
+        LEAST,
+        CALL_SORT,
+        SORT_ORDER,
+        TOP,
+        ACCOUNT_FORMAT,
+    ],
+    beside: ONE_SOURCE,
+};
+
 /// All commands.
 pub(crate) const COMMANDS: &[CommandRow] = &[
-    PLAIN, EXTRACT, SIM, RUN, ASM, ACCOUNT, STACK, CONVERT, DUMP, CHECK, ORDER, PROFILE, SOAK,
+    PLAIN,
+    EXTRACT,
+    SIM,
+    RUN,
+    ASM,
+    ACCOUNT,
+    STACK,
+    CONVERT,
+    DUMP,
+    CHECK,
+    ORDER,
+    PROFILE,
+    SOAK,
     IMPORT,
+    MAP_PROGRAM,
+    CALLS,
 ];

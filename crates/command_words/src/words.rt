@@ -3,7 +3,7 @@ ghost use Rattle.std.specs.Prelude.{◌≡◌, IfOk, IfSome, find, map, option_m
 ghost use Rattle.std.specs.{List.{list_all}, Str.{bytes_eq}};
 ghost use Rattle.fdr_buffer.specs.Times.{IsTime};
 ghost use Rattle.command_words.specs.{Items.{texts}, Ranges.{HasRanges, InRange}};
-ghost use Rattle.command_words.specs.{Views.{command_view}, Words.{account_in, asm_in, command_by, convert_in, plain_in, profile_in, reading, row_with, run_in, sim_in, stack_in}};
+ghost use Rattle.command_words.specs.{Views.{command_view}, Words.{account_in, asm_in, calls_asked_in, command_by, convert_in, plain_in, profile_in, reading, row_with, run_in, sim_in, stack_in}};
 ghost use Rattle.command_words.specs.private.Allowed.{is_row};
 ghost use Rattle.command_words.specs.private.CodeViews.{line_view, row_view};
 
@@ -11,8 +11,8 @@ use crate::cutting::cut_line;
 use crate::line::Line;
 use crate::profile_options::{ProfileOptions, profile_options_in};
 use crate::report_options::{
-    AccountOptions, ConvertOptions, NameSource, ReportFiles, StackFormat, account_options_in,
-    convert_options_in, report_files_in, stack_format_in,
+    AccountOptions, CallsOptions, ConvertOptions, NameSource, ReportFiles, StackFormat,
+    account_options_in, calls_options_in, convert_options_in, report_files_in, stack_format_in,
 };
 use crate::rows::CommandRow;
 use crate::run_options::{Bounds, RunOptions, bounds_in, run_options_in};
@@ -154,6 +154,22 @@ pub enum Command<'a> {
         /// The trace, which is written.
         trace: &'a str,
     },
+    /// Writes the sled map of a compiled program, and prints what it has.
+    Map {
+        /// The program.
+        program: &'a str,
+        /// The sled map, which is written.
+        map: &'a str,
+    },
+    /// Prints the calls of a trace, one by one.
+    Calls {
+        /// The trace.
+        trace: &'a str,
+        /// What names its functions.
+        names: NameSource<'a>,
+        /// Which calls are printed, and how.
+        options: CallsOptions,
+    },
 }
 
 /// The command that words say at a wall time, or `None` if they say none. The words are those after
@@ -253,6 +269,11 @@ fn command_in<'a>(verb: Verb, wall: Wall, line: &Line<'a>) -> Option<Command<'a>
             [log, trace] => Some(Command::Import { log, trace }),
             _ => None,
         },
+        Verb::Map => match files {
+            [program, map] => Some(Command::Map { program, map }),
+            _ => None,
+        },
+        Verb::Calls => calls_asked_in(line),
     }
 }
 
@@ -331,6 +352,20 @@ fn account_in<'a>(line: &Line<'a>) -> Option<Command<'a>>
     let ReportFiles { trace, names } = report_files_in(line)?;
     let options = account_options_in(line)?;
     Some(Command::Account {
+        trace,
+        names,
+        options,
+    })
+}
+
+/// The calls that a line asks for. `None` if it lacks the trace, or if a value isn't allowed.
+fn calls_asked_in<'a>(line: &Line<'a>) -> Option<Command<'a>>
+    ensures reads { option_map command_view result ≡ calls_asked_in (line_view line.now) }
+    ensures ranges { IfSome (option_map command_view result) InRange }
+{
+    let ReportFiles { trace, names } = report_files_in(line)?;
+    let options = calls_options_in(line)?;
+    Some(Command::Calls {
         trace,
         names,
         options,

@@ -8,7 +8,7 @@ use Rattle.elf_file.specs.Symbols.{SymbolNames}
 
 -- the names that a FunctionNames has
 abbrev pub names_held : FunctionNames → SymbolNames
-names_held held = record { symbol = λ address. get nat_eq held.best address; names = held.names.now }
+names_held held = record { symbol = λ address. get nat_eq held.best address; names = held.names.items }
 
 -- the words that an Addends has
 abbrev pub settings_held : Addends → Settings

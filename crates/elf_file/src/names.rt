@@ -29,12 +29,12 @@ fn symbol_section(sections: &[Section]) -> Option<Section>
 }
 
 /// The names that a table of symbols gives, or its refusal.
-fn read_table<'a>(
+fn read_table(
     alloc: Global,
-    file: &'a [u8],
+    file: &[u8],
     sections: &[Section],
     section: Section,
-) -> Result<FunctionNames<'a>, ElfFault>
+) -> Result<FunctionNames, ElfFault>
     ensures { IsElfReading names_held (table_names file.now sections.now section) result }
 {
     let table = content(file, &section)?;
@@ -54,15 +54,15 @@ fn read_table<'a>(
 /// one; then the longest name counts, and then the first. A file without symbols has no names.
 ///
 /// `NoMemory` may be returned in place of any other result.
-pub fn read_names<'a>(
+pub fn read_names(
     alloc: Global,
-    file: &'a [u8],
+    file: &[u8],
     sections: &[Section],
-) -> Result<FunctionNames<'a>, ElfFault>
+) -> Result<FunctionNames, ElfFault>
     ensures { IsElfReading names_held (elf_names file.now sections.now) result }
 {
     match symbol_section(sections) {
         Some(section) => read_table(alloc, file, sections, section),
-        None => Ok(FunctionNames::new(alloc, b"")),
+        None => Ok(FunctionNames::new(alloc, Vec::new(alloc))),
     }
 }

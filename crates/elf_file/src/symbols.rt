@@ -16,8 +16,9 @@ use xray_io::NoMemory;
 
 /// The names of the functions of a file, by their addresses.
 #[derive(Drop)]
-pub struct FunctionNames<'a> {
-    names: &'a [u8],
+pub struct FunctionNames {
+    /// The table of names.
+    names: Vec<u8>,
     best: HashMap<u64, Symbol>,
 }
 
@@ -30,10 +31,10 @@ fn part(bytes: &[u8], begin: u64, size: u64) -> &[u8]
     &rest[..size]
 }
 
-impl<'a> FunctionNames<'a> {
+impl FunctionNames {
     /// No names, but a table of the names to come.
-    pub(crate) fn new(alloc: Global, names: &'a [u8]) -> FunctionNames<'a>
-        ensures names { result.names.now ≡ names.now }
+    pub(crate) fn new(alloc: Global, names: Vec<u8>) -> FunctionNames
+        ensures names { result.names.items ≡ names.items }
         ensures none { HoldsBest [] result }
     {
         FunctionNames {
@@ -46,7 +47,7 @@ impl<'a> FunctionNames<'a> {
     fn add(&mut self, symbol: Symbol) -> Result<(), NoMemory>
         ensures took { OnOk result ((symbols : List TheSymbol) → HoldsBest symbols self.old →
             HoldsBest (symbols ++ symbol ∷ []) self.new) }
-        ensures names { self.new.names.now ≡ self.old.names.now }
+        ensures names { self.new.names.items ≡ self.old.names.items }
     {
         if let Some(known) = self.best.get(&symbol.address) {
             if !symbol.is_better(known) {
@@ -63,15 +64,15 @@ impl<'a> FunctionNames<'a> {
         requires inside { 24 * number + 24 ≤ length table.now }
         requires place { offset + length table.now < 2 ^ 64 }
         ensures took { (symbols : List TheSymbol) → HoldsBest symbols self.old →
-            Took self.new result (symbol_rows offset table.now self.old.names.now symbols number) }
-        ensures names { self.new.names.now ≡ self.old.names.now }
+            Took self.new result (symbol_rows offset table.now self.old.names.items symbols number) }
+        ensures names { self.new.names.items ≡ self.old.names.items }
     {
         let place = SYMBOL_BYTES * number;
         if !is_function_at(table, place) {
             return Ok(());
         }
         let begin = name_begin(table, place) as usize;
-        let Some(size) = name_length(self.names, begin) else {
+        let Some(size) = name_length(&self.names, begin) else {
             return Err(ElfFault::Name(offset + place as u64));
         };
         match self.add(Symbol::at(table, place, size)) {
@@ -85,23 +86,23 @@ impl<'a> FunctionNames<'a> {
         ensures { result.now ≡ function_name_at (names_held self.now) address }
     {
         match self.best.get(&address) {
-            Some(symbol) => part(self.names, symbol.begin, symbol.size),
+            Some(symbol) => part(&self.names, symbol.begin, symbol.size),
             None => b"",
         }
     }
 }
 
 /// The names of functions that a table of symbols gives, which is at `offset` in the file.
-pub(crate) fn read_symbols<'a>(
+pub(crate) fn read_symbols(
     alloc: Global,
     offset: u64,
     table: &[u8],
-    names: &'a [u8],
-) -> Result<FunctionNames<'a>, ElfFault>
+    names: &[u8],
+) -> Result<FunctionNames, ElfFault>
     requires { offset + length table.now < 2 ^ 64 }
     ensures { IsElfReading names_held (names_from offset table.now names.now) result }
 {
-    let mut held = FunctionNames::new(alloc, names);
+    let mut held = FunctionNames::new(alloc, names.to_vec(alloc)?);
     for number in 0..table.len() / SYMBOL_BYTES {
         match held.take_symbol(offset, table, number) {
             Ok(()) => {}

@@ -55,6 +55,8 @@ mod patching;
 #[cfg(test)]
 mod pools;
 #[cfg(test)]
+mod program_maps;
+#[cfg(test)]
 mod replaying;
 #[cfg(test)]
 mod runtime_logs;

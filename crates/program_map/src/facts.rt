@@ -141,7 +141,7 @@ fn named_functions(names: &FunctionNames, sleds: &[NumberedSled]) -> u64
     named.functions
 }
 
-impl ProgramMap<'_> {
+impl ProgramMap {
     /// What is said of the map.
     pub fn facts(&self) -> MapFacts
         ensures { result ≡ map_facts (program_held self.now) }

@@ -217,7 +217,7 @@ fn add_sleds<S: Sink>(
     Ok(())
 }
 
-impl Printed for ProgramMap<'_> {
+impl Printed for ProgramMap {
     ghost text = { λ map. map_text (program_held map) };
 
     ghost ready = { λ _. ⊤ };

@@ -13,9 +13,9 @@ use std::alloc::Global;
 
 /// The sled map of a program: its sleds with ids, and the names of its functions.
 #[derive(Drop)]
-pub struct ProgramMap<'a> {
+pub struct ProgramMap {
     pub(crate) sleds: Vec<NumberedSled>,
-    pub(crate) names: FunctionNames<'a>,
+    pub(crate) names: FunctionNames,
     /// How many functions have an id.
     pub(crate) functions: u32,
     /// How many sleds have none.
@@ -31,7 +31,7 @@ pub struct ProgramMap<'a> {
 ///
 /// `NoMemory` may be returned in place of any other result. No more memory is taken than for the
 /// sections, relocations, symbols and sleds that the file has.
-pub fn read_program<'a>(alloc: Global, file: &'a [u8]) -> Result<ProgramMap<'a>, ProgramFault>
+pub fn read_program(alloc: Global, file: &[u8]) -> Result<ProgramMap, ProgramFault>
     requires { length file.now < 68719476736 }
     ensures { IsProgramReading program_held (program_of_elf file.now) result }
 {

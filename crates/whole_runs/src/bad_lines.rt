@@ -2,7 +2,7 @@
 use crate::cases::{BAD_LINE, CASE, Case, check_case};
 use std::test::Fail;
 
-const BAD_LINES: [&str; 79] = [
+const BAD_LINES: [&str; 83] = [
     // No words, and commands with too few or too many names, or with an output named twice.
     "",
     "sim i s",
@@ -88,10 +88,14 @@ const BAD_LINES: [&str; 79] = [
     "sim i s c t a --buffer-max 0 --threads 1",
     "sim i s c t a --buffer-max 3 --threads 4",
     "sim i s c t a --buffer-max 224 --buffer-size 299578",
-    // `account` and `profile`.
+    // `account`, `calls`, `map` and `profile`.
     "account",
     "account t i t",
     "account t --sort name",
+    "calls t --sort count",
+    "calls t --least -1",
+    "map p",
+    "map m m",
     "profile i s --nodes 0",
 ];
 

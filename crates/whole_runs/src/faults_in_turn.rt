@@ -11,6 +11,7 @@ use std::process::Abort;
 use std::sync::Wait;
 use std::test::Fail;
 use std::thread::Threads;
+use test_helpers::programs::PROGRAM;
 use test_helpers::trace_parts::{LOG_OF_ONE_CALL, ONE_CALL, RECURSION, file};
 use test_helpers::{DeskCall, DeskFault, WatchedDesk, WatchedSink};
 use xray_io::{MemDesk, MemSink, OpenGate};
@@ -50,7 +51,7 @@ const M: File = (
 );
 
 /// The commands. Another command is another row.
-const COMMANDS: [Command; 18] = [
+const COMMANDS: [Command; 20] = [
     Command {
         words: "asm x o",
         inputs: &[X],
@@ -88,6 +89,11 @@ const COMMANDS: [Command; 18] = [
     },
     Command {
         words: "account t i --format csv --sort sum",
+        inputs: &[("t", &RECURSION), I],
+        outputs: &[],
+    },
+    Command {
+        words: "calls t i --sort duration --top 1",
         inputs: &[("t", &RECURSION), I],
         outputs: &[],
     },
@@ -140,6 +146,11 @@ const COMMANDS: [Command; 18] = [
         words: "import l t",
         inputs: &[("l", &RECURSION)],
         outputs: &["t"],
+    },
+    Command {
+        words: "map p m",
+        inputs: &[("p", &[PROGRAM])],
+        outputs: &["m"],
     },
 ];
 

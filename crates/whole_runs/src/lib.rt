@@ -29,6 +29,8 @@ mod pieces;
 #[cfg(test)]
 mod profile;
 #[cfg(test)]
+mod program_maps;
+#[cfg(test)]
 mod reports;
 #[cfg(test)]
 mod run;

@@ -1,4 +1,4 @@
-//! `account`, `stack`, `convert` and `fdr-dump`: what they print of traces and basic logs, and what they refuse.
+//! `account`, `calls`, `stack`, `convert` and `fdr-dump`: what they print of traces and basic logs, and what they refuse.
 use crate::cases::{CASE, Case, I, check_case};
 use std::test::Fail;
 use test_helpers::trace_parts::{
@@ -34,6 +34,34 @@ const CSV_OF_THE_SLOWEST: &str = "funcid,count,min,med,90p,99p,max,sum,entries,e
 
 /// The words of an account of the function that took longest.
 const SLOWEST: &str = "account t --top 1 --sort=99p --sortorder=desc --format=csv";
+
+/// Calls as `tools/model/calls_model.py` has them.
+const CALLS_OF_THREE: &str = "      call     parent     thread    process        cpu      start   \
+    duration       self      depth        arg     funcid function\n         \
+    2          1          1          1          0          2          4          \
+    4          2          -          3 #3\n         \
+    1          0          1          1          0          1          7          \
+    3          1          -          2 #2\n         \
+    0          -          1          1          0          0         10          \
+    3          0          -          1 main\n";
+
+const CALLS_OF_RECURSION: &str =
+    "call,parent,thread,process,cpu,start,duration,self,depth,arg,funcid,function\n\
+    1,0,1,1,0,10,35,25,1,,1,#1\n2,1,1,1,0,20,10,10,2,,1,#1\n";
+
+const LONG_CALLS: &str =
+    "call,parent,thread,process,cpu,start,duration,self,depth,arg,funcid,function\n\
+    2,1,1,1,0,2,4,4,2,,3,#3\n1,0,1,1,0,1,7,3,1,,2,#2\n";
+
+const CALLS_OF_2: &str =
+    "call,parent,thread,process,cpu,start,duration,self,depth,arg,funcid,function\n\
+    1,0,1,1,0,1,7,3,1,,2,#2\n";
+
+const NO_CALLS: &str =
+    "call,parent,thread,process,cpu,start,duration,self,depth,arg,funcid,function\n";
+
+/// The words of the calls that took 4 cycles or more, ordered by what they took themselves.
+const LONG: &str = "calls t --sort self --sortorder desc --top 2 --least 4 --format=csv";
 
 const STACKS_OF_ONE_CALL: &str =
     "     count        sum       self stack\n         1          2          2 main\n";
@@ -119,7 +147,7 @@ const END_OF_KIND: &str = ", tsc: 2 }\n...\n";
 /// The parts of a trace or of a log, words, and what is printed.
 type Printed = (&'static [&'static [u8]], &'static str, &'static str);
 
-const PRINTED: [Printed; 35] = [
+const PRINTED: [Printed; 40] = [
     // `account`.
     (&[HEADER], "account t", TEXT_OF_NONE),
     (&ONE_CALL, "account t i", TEXT_OF_ONE_CALL),
@@ -132,6 +160,20 @@ const PRINTED: [Printed; 35] = [
     ),
     (&TWO_FUNCTIONS, SLOWEST, CSV_OF_THE_SLOWEST),
     (&TWO_FUNCTIONS, "account t i --top 0", TEXT_OF_NO_ROWS),
+    // `calls`.
+    (&NESTED, "calls t i", CALLS_OF_THREE),
+    (
+        &RECURSION,
+        "calls t --format csv --sort=call",
+        CALLS_OF_RECURSION,
+    ),
+    (&NESTED, LONG, LONG_CALLS),
+    (
+        &NESTED,
+        "calls t --function 2 --thread=1 --format csv",
+        CALLS_OF_2,
+    ),
+    (&ONE_EXIT, "calls t --format csv", NO_CALLS),
     // `stack` and `convert`.
     (&ONE_CALL, "stack t i", STACKS_OF_ONE_CALL),
     (

@@ -7,7 +7,7 @@ use Rattle.audit_check.specs.Statements.{AuditStatement, MayState}
 use Rattle.audit_check.specs.Verdicts.{IsJudged}
 use Rattle.command_words.specs.Limits.{trace_limit}
 use Rattle.command_words.specs.Reports.{NameSource, ByIds, ByImage, ByMap}
-use Rattle.command_words.specs.Words.{Command, Sim, Run, Plain, Extract, Asm, Account, Stack, Convert, Dump, Check, Order, Profile, Soak, Import}
+use Rattle.command_words.specs.Words.{Command, Sim, Run, Plain, Extract, Asm, Account, Calls, Stack, Convert, Dump, Check, Order, Profile, Soak, Import, Map}
 use Rattle.fdr_file.specs.Traces.{trace_of}
 use Rattle.function_names.specs.Name.{program_names}
 use Rattle.map_names.specs.FaultWords.{map_words}
@@ -17,6 +17,8 @@ use Rattle.patch_script.specs.declared.command.PatchCommand.{PatchCommand}
 use Rattle.patch_script.specs.FaultWords.{script_words}
 use Rattle.patch_script.specs.Plans.{plan_of}
 use Rattle.patch_script.specs.Refusals.{commands_of}
+use Rattle.program_map.specs.FaultWords.{program_words}
+use Rattle.program_map.specs.Programs.{program_of_elf}
 use Rattle.run_order.specs.Answers.{IsOrdered}
 use Rattle.run_order.specs.FreeScripts.{free_text}
 use Rattle.run_order.specs.declared.fault.OrderFault.{OrderFault}
@@ -34,7 +36,7 @@ use Rattle.xray_program.specs.Answers.{IsAnswer}
 use Rattle.xray_program.specs.Commands.{IsDecided, IsProfile, Means, TellsAll, doing_of, takes_report}
 use Rattle.xray_program.specs.Convert.{log_form}
 use Rattle.xray_program.specs.Doings.{IsWriting}
-use Rattle.xray_program.specs.Inputs.{WholeScript, audit_form, image_form, imported_form, map_form, map_limit, readable_form, schedule_form, schedule_limit, script_form, script_limit, text_form, text_limit, trace_form, unread_trace_form, whole_script_form}
+use Rattle.xray_program.specs.Inputs.{WholeScript, audit_form, image_form, imported_form, map_form, map_limit, program_form, program_limit, readable_form, schedule_form, schedule_limit, script_form, script_limit, text_form, text_limit, trace_form, unread_trace_form, whole_script_form}
 use Rattle.xray_program.specs.LoadOrder.{order_outcome}
 use Rattle.xray_program.specs.Outcomes.{BadLine, Done, Outcome, status_of, written_by}
 use Rattle.xray_program.specs.Setups.{setup_of}
@@ -120,6 +122,9 @@ trace_is = kind_by (codes "trace") trace_limit trace_of trace_words
 map_is : IsKind map_form
 map_is = kind_by (codes "map") map_limit map_naming map_words
 
+program_is : IsKind program_form
+program_is = kind_by (codes "program") program_limit program_of_elf program_words
+
 readable_is : IsKind readable_form
 readable_is = record { unique = readable_unique; judged = readable_judged }
 
@@ -182,6 +187,7 @@ command_is_lawful below (Plain i bounds) = (
 command_is_lawful below (Extract i) = (image_is below, λ file program accepted. tt)
 command_is_lawful below (Asm t i threshold relative) = (text_is threshold relative, λ bytes file reads. tt)
 command_is_lawful below (Account t names options) = report_is below trace_form trace_is t names _ (λ trace naming. tt)
+command_is_lawful below (Calls t names options) = report_is below trace_form trace_is t names _ (λ trace naming. tt)
 command_is_lawful below (Stack t names format) = report_is below trace_form trace_is t names _ (λ trace naming none. tt)
 command_is_lawful below (Convert t names options) =
     report_is below (log_form options.input) (log_is_kind options.input) t names _ (λ trace naming none. tt)
@@ -233,6 +239,7 @@ command_is_lawful below (Soak number) = (
   λ text is. tt,
 )
 command_is_lawful below (Import log trace) = (imported_is below, λ bytes made reads. tt)
+command_is_lawful below (Map program map) = (program_is, λ bytes mapped reads. tt)
 
 -- ---- the laws
 
@@ -275,6 +282,7 @@ sound_or_profile (Plain i bounds) = inl (λ y text. not_7)
 sound_or_profile (Extract i) = inl (λ y. not_7)
 sound_or_profile (Asm t i threshold relative) = inl (λ y. not_7)
 sound_or_profile (Account t names options) = inl (λ y. not_7)
+sound_or_profile (Calls t names options) = inl (λ y. not_7)
 sound_or_profile (Stack t names format) = inl (λ y. not_7)
 sound_or_profile (Convert t names options) = inl (λ y. not_7)
 sound_or_profile (Dump t) = inl (λ y. not_7)
@@ -283,6 +291,7 @@ sound_or_profile (Order i s a f o) = inl (λ y answer. order_not_7 a f o y.2.tex
 sound_or_profile (Profile i s options) = inr (i, s, options, refl)
 sound_or_profile (Soak number) = inl (λ y text. not_7)
 sound_or_profile (Import log trace) = inl (λ y. not_7)
+sound_or_profile (Map program map) = inl (λ y. not_7)
 
 pub only_profiles_fall : (said : Option Command) (held : List ℕ → Entry) (outcome : Outcome) → Means said held outcome → status_of outcome ≡ 7
     → (command : Command) × (said ≡ Some command) × IsProfile command

@@ -4,7 +4,7 @@ use Rattle.std.specs.Prelude.{IsPermutation}
 use Rattle.std.proofs.lemmas.List.Sorted.{IsPermutation-cons, IsPermutation-refl, IsPermutation-to_front}
 use Rattle.command_words.specs.Files.{AreOfTheirRows, inputs_in, names_given, names_of, row_of}
 use Rattle.command_words.specs.Reports.{ByIds, ByImage, ByMap}
-use Rattle.command_words.specs.Words.{Command, Sim, Run, Plain, Extract, Asm, Account, Stack, Convert, Dump, Check, Order, Profile, Soak, Import, reading}
+use Rattle.command_words.specs.Words.{Command, Sim, Run, Plain, Extract, Asm, Account, Calls, Stack, Convert, Dump, Check, Order, Profile, Soak, Import, Map, reading}
 use Rattle.xray_io.specs.declared.wall.Wall.{Wall}
 use Rattle.xray_program.specs.Commands.{IsStill, doing_of}
 
@@ -21,6 +21,7 @@ still_by_word rows wall word words other another = by_said (reading wall (word �
     by_said (Some (Extract image)) is = refl
     by_said (Some (Asm text image threshold relative)) is = refl
     by_said (Some (Account trace names options)) is = refl
+    by_said (Some (Calls trace names options)) is = refl
     by_said (Some (Stack trace names format)) is = refl
     by_said (Some (Convert trace names options)) is = refl
     by_said (Some (Dump trace)) is = refl
@@ -29,6 +30,7 @@ still_by_word rows wall word words other another = by_said (reading wall (word �
     by_said (Some (Profile image script options)) is = absurd (another (rows wall word words (Profile image script options) is).word_is)
     by_said (Some (Soak number)) is = refl
     by_said (Some (Import log trace)) is = refl
+    by_said (Some (Map program map)) is = refl
 
 -- ---- rows
 
@@ -52,6 +54,9 @@ inputs_of_row (Asm t i threshold relative) = IsPermutation-refl (t ∷ [])
 inputs_of_row (Account t ByIds options) = IsPermutation-refl (t ∷ [])
 inputs_of_row (Account t (ByImage name) options) = IsPermutation-refl (t ∷ name ∷ [])
 inputs_of_row (Account t (ByMap name) options) = IsPermutation-refl (t ∷ name ∷ [])
+inputs_of_row (Calls t ByIds options) = IsPermutation-refl (t ∷ [])
+inputs_of_row (Calls t (ByImage name) options) = IsPermutation-refl (t ∷ name ∷ [])
+inputs_of_row (Calls t (ByMap name) options) = IsPermutation-refl (t ∷ name ∷ [])
 inputs_of_row (Stack t ByIds format) = IsPermutation-refl (t ∷ [])
 inputs_of_row (Stack t (ByImage name) format) = IsPermutation-refl (t ∷ name ∷ [])
 inputs_of_row (Stack t (ByMap name) format) = IsPermutation-refl (t ∷ name ∷ [])
@@ -64,3 +69,4 @@ inputs_of_row (Order i s a f o) = audit_second i s a
 inputs_of_row (Profile i s options) = IsPermutation-refl (i ∷ s ∷ [])
 inputs_of_row (Soak number) = IsPermutation-refl []
 inputs_of_row (Import log trace) = IsPermutation-refl (log ∷ [])
+inputs_of_row (Map program map) = IsPermutation-refl (program ∷ [])

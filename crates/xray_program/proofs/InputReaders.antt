@@ -17,7 +17,7 @@ use Rattle.xray_image.specs.Table.{ImageReading, ReadsAs}
 use Rattle.xray_image.specs.declared.fault.ImageFault.{ImageFault}
 use Rattle.xray_image.specs.declared.fault.ImageFault.TheVariants as faults
 use Rattle.xray_program.specs.Inputs.{image_form, refused_for}
-use Rattle.xray_program.specs.private.NamesTaken.{kept_map_form}
+use Rattle.xray_program.specs.private.KeptForms.{kept_map_form}
 
 -- a text has at most one more line than bytes
 lines_of_few : (parts : List (List ℕ)) → length (lines_of_parts parts) ≤ length parts

@@ -33,11 +33,11 @@ pub mod CallOrder
 pub mod TakenInputs
 pub mod InputMeanings
 pub mod InputReaders
+pub mod KeptForms
 pub mod Images
 pub mod Audits
 pub mod Logs
 pub mod LogForms
-pub mod NamesTaken
 pub mod WholeScripts
 -- Outputs and texts (src/delivery.rt, src/traced.rt, src/summary.rt)
 pub mod MadeOutputs

@@ -6,13 +6,15 @@ use Rattle.audit_check.specs.Statements.{AuditStatement}
 use Rattle.audit_check.specs.Texts.{verdict_text}
 use Rattle.audit_check.specs.Verdicts.{IsJudged}
 use Rattle.command_words.specs.Reports.{NameSource, ByIds, ByImage, ByMap, image_named, map_named}
-use Rattle.command_words.specs.Words.{Command, Sim, Run, Plain, Extract, Asm, Account, Stack, Convert, Dump, Check, Order, Profile, Soak, Import, outputs_of}
+use Rattle.command_words.specs.Words.{Command, Sim, Run, Plain, Extract, Asm, Account, Calls, Stack, Convert, Dump, Check, Order, Profile, Soak, Import, Map, outputs_of}
 use Rattle.command_words.specs.declared.profile_options.ProfileOptions.{ProfileOptions}
 use Rattle.fdr_file.specs.declared.trace.Trace.{Trace}
 use Rattle.function_names.specs.Name.{program_names}
 use Rattle.map_names.specs.Naming.{Naming, no_names}
 use Rattle.patch_script.specs.Plans.{Plan}
 use Rattle.patch_script.specs.Refusals.{commands_of}
+use Rattle.program_map.specs.MapText.{map_facts, map_facts_text, map_text}
+use Rattle.program_map.specs.Programs.{MappedProgram}
 use Rattle.run_order.specs.Answers.{IsOrdered}
 use Rattle.runtime_log.specs.Facts.{facts_text}
 use Rattle.runtime_log.specs.declared.facts.Facts.{Facts}
@@ -23,9 +25,10 @@ use Rattle.trace_forms.specs.Dumps.{dump_text}
 use Rattle.xray_image.specs.Extract.{extract_text}
 use Rattle.xray_image.specs.Program.{Program}
 use Rattle.xray_program.specs.Account.{account_report}
+use Rattle.xray_program.specs.Calls.{calls_report}
 use Rattle.xray_program.specs.Convert.{converted, log_form, no_text_for}
 use Rattle.xray_program.specs.Doings.{Chooses, Comes, Doing, Finds, Gives, IsDetermined, Leaves, ReachesInput, RefusesIf, Takes, Taking}
-use Rattle.xray_program.specs.Inputs.{Readable, WholeScript, audit_form, image_form, imported_form, map_form, readable_form, schedule_form, script_form, text_form, trace_form, unread_trace_form, whole_script_form}
+use Rattle.xray_program.specs.Inputs.{Readable, WholeScript, audit_form, image_form, imported_form, map_form, program_form, readable_form, schedule_form, script_form, text_form, trace_form, unread_trace_form, whole_script_form}
 use Rattle.xray_program.specs.LoadOrder.{order_outcome}
 use Rattle.xray_program.specs.Outcomes.{Outcome, BadLine, Done}
 use Rattle.xray_program.specs.Plain.{PlainPrints}
@@ -97,6 +100,12 @@ doing_of (Account trace names options) = record {
   takes = takes_report trace_form trace names;
   leaves = λ (t, naming). Leaves (Done [] (account_report options t naming));
 }
+doing_of (Calls trace names options) = record {
+  Values = Trace × Naming;
+  names = _;
+  takes = takes_report trace_form trace names;
+  leaves = λ (t, naming). Leaves (Done [] (calls_report options t naming));
+}
 doing_of (Stack trace names format) = record {
   Values = Trace × Naming;
   names = _;
@@ -159,6 +168,12 @@ doing_of (Import log trace) = record {
   names = _;
   takes = Takes imported_form log Gives;
   leaves = λ (file, facts). Leaves (Done ((trace, file) ∷ []) (facts_text facts));
+}
+doing_of (Map program map) = record {
+  Values = MappedProgram;
+  names = _;
+  takes = Takes program_form program Gives;
+  leaves = λ mapped. Leaves (Done ((map, map_text mapped) ∷ []) (map_facts_text (map_facts mapped)));
 }
 
 -- whether it waits for nobody, and starts no thread

@@ -20,6 +20,8 @@ use Rattle.trace_words.specs.TraceWords.{trace_words}
 use Rattle.map_names.specs.FaultWords.{map_words}
 use Rattle.map_names.specs.Maps.{map_naming}
 use Rattle.map_names.specs.Naming.{Naming}
+use Rattle.program_map.specs.FaultWords.{program_words}
+use Rattle.program_map.specs.Programs.{MappedProgram, program_of_elf}
 use Rattle.runtime_log.specs.declared.facts.Facts.{Facts}
 use Rattle.runtime_log.specs.declared.fault.LogFault.{LogFault}
 use Rattle.runtime_log.specs.FaultWords.{log_words}
@@ -52,6 +54,9 @@ audit_limit = 67108864
 
 abbrev pub map_limit : ℕ
 map_limit = 67108864
+
+abbrev pub program_limit : ℕ
+program_limit = 4294967296
 
 -- ---- the kinds
 
@@ -119,6 +124,10 @@ basic_form = form_by (codes "trace") trace_limit basic_of basic_words
 -- a sled map, which reads as the names that it gives to functions
 abbrev pub map_form : Form Naming
 map_form = form_by (codes "map") map_limit map_naming map_words
+
+-- a compiled program, which reads as its sled map
+abbrev pub program_form : Form MappedProgram
+program_form = form_by (codes "program") program_limit program_of_elf program_words
 
 -- a log of LLVM's runtime, which reads as the file of the trace that is made of it, with the facts that are printed
 abbrev pub imported_form : Form (List ℕ × Facts)

@@ -10,6 +10,7 @@ pub mod Plain
 pub mod Sim
 pub mod Run
 pub mod Account
+pub mod Calls
 pub mod Soak
 pub mod Stack
 pub mod Profile

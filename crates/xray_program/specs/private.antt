@@ -4,6 +4,7 @@ pub mod CheckInputs
 pub mod OrderInputs
 pub mod Drawn
 pub mod Ends
+pub mod KeptForms
 pub mod Lawful
 pub mod Logs
 pub mod Meant

@@ -11,6 +11,7 @@ ghost use Rattle.xray_program.specs.private.Works.{Ends, SaidHasRanges};
 
 use crate::account::Account;
 use crate::asm::Asm;
+use crate::calls::Calls;
 use crate::check::Check;
 use crate::convert::Convert;
 use crate::dump::Dump;
@@ -18,6 +19,7 @@ use crate::extract::Extract;
 use crate::import::Import;
 use crate::laws::what_is_done_is_traced;
 use crate::load_order::LoadOrder;
+use crate::map_program::MapProgram;
 use crate::plain::Plain;
 use crate::profile::perform_profile;
 use crate::run::perform_run;
@@ -367,6 +369,7 @@ fn perform_command<'a, D: Desk, O: Sink>(
         }
         Command::Soak { number } => perform(alloc, &Soak { number }, desk, out),
         Command::Import { log, trace } => perform(alloc, &Import { log, trace }, desk, out),
+        Command::Map { program, map } => perform(alloc, &MapProgram { program, map }, desk, out),
         Command::Account {
             trace,
             names,
@@ -378,6 +381,18 @@ fn perform_command<'a, D: Desk, O: Sink>(
                 options,
             };
             perform(alloc, &account, desk, out)
+        }
+        Command::Calls {
+            trace,
+            names,
+            options,
+        } => {
+            let calls = Calls {
+                trace,
+                names,
+                options,
+            };
+            perform(alloc, &calls, desk, out)
         }
         Command::Stack {
             trace,

@@ -10,6 +10,7 @@ use audit_check::{AuditFault, read_audit};
 use command_words::TRACE_LIMIT;
 use map_names::{MapFault, MapNames, read_map};
 use patch_script::{Script, ScriptFault, read_script};
+use program_map::{ProgramFault, ProgramMap, read_program};
 use runtime_log::{ImportedLog, LogFault, import_log};
 use std::alloc::Global;
 use step_sim::{Schedule, ScheduleFault, read_schedule};
@@ -32,6 +33,9 @@ const AUDIT_LIMIT: u64 = 67_108_864;
 
 /// The most bytes of a sled map.
 const MAP_LIMIT: u64 = 67_108_864;
+
+/// The most bytes of a compiled program.
+const PROGRAM_LIMIT: u64 = 4_294_967_296;
 
 /// The word for a script in a line on err.
 pub(crate) const SCRIPT: &str = "script";
@@ -77,7 +81,7 @@ pub(crate) struct MapKind;
 
 impl Kind for MapKind {
     ghost use Rattle.std.specs.Prelude.{⊤};
-    ghost use Rattle.xray_program.specs.private.NamesTaken.{kept_map_form};
+    ghost use Rattle.xray_program.specs.private.KeptForms.{kept_map_form};
 
     type Value = MapNames;
 
@@ -97,6 +101,35 @@ impl Kind for MapKind {
 
     fn judge(&self, alloc: Global, bytes: &[u8]) -> Result<MapNames, MapFault> {
         read_map(alloc, bytes)
+    }
+}
+
+/// A compiled program. Its value is its sled map.
+#[derive(Drop)]
+pub(crate) struct ProgramKind;
+
+impl Kind for ProgramKind {
+    ghost use Rattle.std.specs.Prelude.{⊤};
+    ghost use Rattle.xray_program.specs.private.KeptForms.{kept_program_form};
+
+    type Value = ProgramMap;
+
+    type Refusal = ProgramFault;
+
+    ghost form = { λ _. kept_program_form };
+
+    ghost fits = { λ _ _. ⊤ };
+
+    fn word(&self) -> &'static str {
+        "program"
+    }
+
+    fn limit(&self) -> u64 {
+        PROGRAM_LIMIT
+    }
+
+    fn judge(&self, alloc: Global, bytes: &[u8]) -> Result<ProgramMap, ProgramFault> {
+        read_program(alloc, bytes)
     }
 }
 

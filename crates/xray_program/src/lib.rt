@@ -1,8 +1,9 @@
 //! The top call: all that the program does, from the words of its command line to what it writes.
 //!
 //! The words are read first, together with the wall time (`command_words`). A command is one module
-//! (`sim`, `plain`, `extract`, `asm`, `account`, `stack`, `convert`, `dump`, `check`, `soak`,
-//! `import`, `load_order` of `order`), which implements `Work`, or starts threads (`run`, `profile`).
+//! (`sim`, `plain`, `extract`, `asm`, `account`, `calls`, `stack`, `convert`, `dump`, `check`, `soak`,
+//! `import`, `load_order` of `order`, `map_program` of `map`), which implements `Work`, or starts
+//! threads (`run`, `profile`).
 //! It takes its inputs in their order (`inputs_of`, `input`). Each is read, measured and judged before
 //! the next is opened, so the first that fails decides. Then it does its work, and writes its outputs
 //! and its text (`delivery`). What is written of traced threads is in `traced`.
@@ -20,6 +21,8 @@ mod account;
 mod account_options;
 mod asm;
 mod call;
+mod calls;
+mod calls_options;
 mod check;
 mod check_inputs;
 mod convert;
@@ -34,6 +37,7 @@ mod inputs;
 mod laws;
 mod load_order;
 mod log;
+mod map_program;
 mod names;
 mod order_inputs;
 mod plain;

@@ -4,12 +4,15 @@ use Rattle.std.specs.declared.alloc.Global.{Global}
 use Rattle.account_report.specs.Account.{account_of}
 use Rattle.account_report.specs.AccountText.{latencies_of}
 use Rattle.account_report.specs.Ordered.{arranged}
+use Rattle.call_rows.specs.declared.row.CallRow.{CallRow}
 use Rattle.command_words.specs.declared.report_options.AccountOptions.{AccountOptions}
+use Rattle.command_words.specs.declared.report_options.CallsOptions.{CallsOptions}
 use Rattle.fdr_file.specs.declared.trace.Trace.{Trace}
 use Rattle.stack_rebuild.specs.Stacks.{IsDeepFault, deep_in, most_open, stack_of, told}
 use Rattle.stack_rebuild.specs.declared.stack_row.StackFault.{StackFault}
 use Rattle.stack_rebuild.specs.declared.stack_row.StackRow.{StackRow}
 use Rattle.xray_program.specs.Account.{is_descending, key_of}
+use Rattle.xray_program.specs.Calls.{listed_calls}
 use Rattle.xray_program.specs.declared.account.AccountRows.{AccountRows}
 use Rattle.xray_program.specs.declared.stack.TraceStacks.{TraceStacks}
 
@@ -17,6 +20,10 @@ use Rattle.xray_program.specs.declared.stack.TraceStacks.{TraceStacks}
 pub record AccountMeans (options : AccountOptions) (account : AccountRows) (trace : Trace) : Type 0 where
   pub rows : account.rows.items ≡ arranged (key_of options.sort) (is_descending options.order) options.top (account_of trace.blocks)
   pub latencies : account.latencies ≡ latencies_of (account_of trace.blocks)
+
+-- the calls of a trace that the options ask for, in their order
+abbrev pub CallsMean : CallsOptions → Vec CallRow Global → Trace → Type 0
+CallsMean options rows trace = rows.items ≡ listed_calls options trace
 
 -- the rows of the stacks of a trace, or why there are none
 abbrev pub RowsMean : Result (Vec StackRow Global) StackFault → Trace → Type 0

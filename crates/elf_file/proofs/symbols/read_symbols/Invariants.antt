@@ -8,5 +8,5 @@ use Rattle.elf_file.proofs.symbols.read_symbols.Given as goal
 
 abbrev pub invariant-loop-number : goal.invariant-loop-number
 invariant-loop-number l =
-    (l.held.names.now ≡ l.names) × ((symbols : List Symbol) × HoldsBest symbols l.held
+    (l.held.names.items ≡ l.names) × ((symbols : List Symbol) × HoldsBest symbols l.held
     × (symbols_in l.offset l.table l.names ≡ InTurn (symbol_rows l.offset l.table l.names) symbols (range_with_len l.number (length l.table / 24 - l.number))))

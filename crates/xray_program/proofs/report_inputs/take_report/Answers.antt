@@ -1,10 +1,12 @@
 use Rattle.std.proofs.Common.{refl}
 use Rattle.command_words.specs.Reports.{ByIds, ByImage, ByMap}
 use Rattle.command_words.specs.Views.{source_view}
+use Rattle.map_names.specs.MapNames.{named}
 use Rattle.xray_io.specs.World.{desk_view}
 use Rattle.xray_program.specs.Commands.{takes_report}
+use Rattle.xray_program.specs.Inputs.{map_form}
 use Rattle.xray_program.specs.private.ReportTakes.{AreOfReport}
-use Rattle.xray_program.proofs.NamesTaken.{kept_stopped, kept_turn}
+use Rattle.xray_program.proofs.KeptForms.{kept_stopped, kept_turn}
 use Rattle.xray_program.proofs.TakenInputs.{at_first, given, passed, report_stopped, stopped, turn_as}
 use Rattle.xray_program.proofs.report_inputs.take_report.Goals as goal
 
@@ -66,7 +68,7 @@ returns-in_err-map-in-Map g c =
     let log = passed both _ _ _ _ start
     (turn_as form c.args.log.now took.taken.0 took.taken.2 took.held took.later took.writes took.calm took.calls) in
     rw c.in-Map.is (stopped both _ _ _ (AreOfReport means) _ _ c.from_residual-in_err-map-in-Map.ensures.1 log
-    (kept_stopped c.in-Map.name.now _ _ _ c.in_err-map-in-Map.ensures.turn))
+    (kept_stopped map_form named c.in-Map.name.now _ _ _ c.in_err-map-in-Map.ensures.turn))
 
 pub returns-in_ok-map-in-Map : goal.returns-in_ok-map-in-Map
 returns-in_ok-map-in-Map g c =
@@ -78,5 +80,5 @@ returns-in_ok-map-in-Map g c =
     let start = at_first desk g.met.D.Desk.along_none (takes_report form c.args.log.now (ByMap c.in-Map.name.now)) c.args.desk.now in
     let log = passed both _ _ _ _ start
     (turn_as form c.args.log.now took.taken.0 took.taken.2 took.held took.later took.writes took.calm took.calls) in
-    let map = passed both _ _ _ _ log (kept_turn c.in-Map.name.now _ _ _ c.in_ok-map-in-Map.ensures.turn) in
+    let map = passed both _ _ _ _ log (kept_turn map_form named c.in-Map.name.now _ _ _ c.in_ok-map-in-Map.ensures.turn) in
     rw c.in-Map.is (given (AreOfReport means) _ _ map (took.taken.1, refl))
