@@ -14,7 +14,7 @@ fn a_program_has_a_map(rt: HostRuntime) -> Result<(), Fail> {
     let map = read_program(rt.alloc(), PROGRAM)?;
     let mut out = MemSink::new(rt.alloc(), Vec::new(rt.alloc()));
     assert!(rt; write_text(&map, &mut out).is_ok());
-    assert!(rt; out.bytes() == MAP.as_bytes());
+    assert!(rt; out.bytes() == MAP);
     let mut facts = MemSink::new(rt.alloc(), Vec::new(rt.alloc()));
     assert!(rt; write_text(&map.facts(), &mut facts).is_ok());
     assert!(rt; facts.bytes() == FACTS.as_bytes());

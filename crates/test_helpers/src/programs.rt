@@ -26,7 +26,7 @@ ewhere_and_longer\0object_and_longer\0\0xray_instr_map\0.symtab\0.strtab\0.shstr
 \0\0\0\0\0\0\0\0\0\0\0\0\x01\0\0\0\0\0\0\0\0\0\0\0\0\0\0\0";
 
 /// Its map.
-pub const MAP: &str = "---
+pub const MAP: &[u8] = b"---
 - { id: 1, address: 0x1000, function: 0x1000, kind: function-enter, always-instrument: true, function-name: 'main', version: 2 }
 - { id: 1, address: 0x1014, function: 0x1000, kind: function-exit, always-instrument: true, function-name: 'main', version: 2 }
 - { id: 2, address: 0x1020, function: 0x1020, kind: log-args-enter, always-instrument: false, function-name: 'it''s', version: 2 }

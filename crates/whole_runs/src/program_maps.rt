@@ -9,7 +9,7 @@ const MAPS: [Case; 3] = [
         files: &[("p", &[PROGRAM])],
         line: "map p m",
         out: &[FACTS],
-        left: &[("m", 0, &[MAP.as_bytes()], 0)],
+        left: &[("m", 0, &[MAP], 0)],
         ..CASE
     },
     Case {
