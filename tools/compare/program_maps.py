@@ -23,9 +23,10 @@ import tempfile
 
 sys.dont_write_bytecode = True
 TOOLS = pathlib.Path(__file__).resolve().parents[1]
-sys.path += [str(TOOLS), str(TOOLS / "model")]
+sys.path.insert(0, str(TOOLS))
 from command_line import CommandLine, finish  # noqa: E402
-from program_map_model import Refused, facts_text, map_of  # noqa: E402
+from model.image_model import Refused  # noqa: E402
+from model.program_map_model import facts_text, map_of  # noqa: E402
 
 CLANGS = [14, 19]
 XRAY = ["-fxray-instrument", "-fxray-instruction-threshold=1"]
@@ -94,9 +95,9 @@ class Compared:
     def model(self, data):
         try:
             text, facts = map_of(data)
-            return text, facts_text(facts)
+            return text, facts_text(facts).encode()
         except Refused as refused:
-            return None, str(refused)
+            return None, refused.reason
 
     def file(self, path, what):
         """Compares a file with the model. Returns our map, if there is one."""

@@ -272,6 +272,8 @@ def random_contents(draw, command, threads):
             return [random_log(draw) if command == "convert" and draw.random() < 0.3 else random_trace(draw), *images]
         case "fdr-dump":
             return [random_trace(draw)]
+        case "map":
+            return [draw.choice([b"", b"\x7FELF", b"\x7FELF\2\1" + bytes(draw.randrange(80)), b"#!/bin/sh\n"])]
         case "import":
             return [random_runtime_log(draw)]
     return [random_image(draw, KINDS[command], 0.6)]

@@ -25,6 +25,7 @@ NAMES = {
     "convert": [b"t", b"i"],
     "fdr-dump": [b"t"],
     "import": [b"t", b"new"],
+    "map": [b"p", b"new"],
     "check": [b"i", b"s", b"t", b"a"],
     "order": [b"i", b"s", b"a", b"new", b"new 2"],
     "soak": [b"1"],
@@ -41,9 +42,11 @@ OTHER_COMMANDS = [b"", b"help", b"Plain", b"plain ", b"--", b"-", b"--fuel=3", b
 
 @functools.cache
 def files():
-    """The inputs: an image, a script, a schedule, a text, a sled map, and the trace and the audit of a replay of the image."""
+    """The inputs: an image, a script, a schedule, a text, a sled map, the first bytes of a compiled program, and the trace
+    and the audit of a replay of the image."""
     image = assembled(TEXT, 1)
-    inputs = {b"i": image, b"s": b"go\n", b"c": b"", b"x": TEXT, b"m": model.sled_map_text(model.image_of(image)).encode()}
+    sled_map = model.sled_map_text(model.image_of(image)).encode()
+    inputs = {b"i": image, b"s": b"go\n", b"c": b"", b"x": TEXT, b"m": sled_map, b"p": b"\x7FELF"}
     world = model.World({name.decode(): content for name, content in inputs.items()})
     traced = model.outcome([b"sim", b"i", b"s", b"c", b"t", b"a"], world)
     return {**inputs, b"t": traced.written["t"], b"a": traced.written["a"]}

@@ -5,13 +5,11 @@ the refusal.
 """
 import struct
 
+from .image_model import Refused
+
 LIMIT = 1 << 32
 WORDS = 1 << 64
 KINDS = ["function-enter", "function-exit", "tail-exit", "log-args-enter", "custom-event", "typed-event"]
-
-
-class Refused(Exception):
-    """The words of a refusal."""
 
 
 def number(data, place, size):
@@ -177,4 +175,4 @@ def map_of(data):
 
 def facts_text(facts):
     words = ["sleds", "functions", "functions without a name", "sleds without an id left out"]
-    return "".join(f"{fact:>20} {word}\n" for fact, word in zip(facts, words)).encode()
+    return "".join(f"{fact:>20} {word}\n" for fact, word in zip(facts, words))

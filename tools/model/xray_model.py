@@ -12,7 +12,7 @@ import dataclasses
 import posixpath
 import re
 
-from . import check_model, import_model, map_model, order_model, profile_model, run_model, soak_model
+from . import check_model, import_model, map_model, order_model, profile_model, program_map_model, run_model, soak_model
 from .asm_model import assembled
 from .calls_model import calls_text
 from .forms_model import basic_bytes, basic_trace, dump_text, events_text
@@ -157,13 +157,14 @@ FORMS = {
     ),
     "fdr-dump": Form(range(1, 2), (), {}),
     "import": Form(range(2, 3), (1,), {}),
+    "map": Form(range(2, 3), (1,), {}),
     "check": Form(range(4, 5), (), {}),
     "order": Form(range(5, 6), (3, 4), {}),
     "soak": Form(range(1, 2), (), {}, {0: Numbers(0, LARGEST_64, None)}),
     "profile": Form(range(2, 3), (), PROFILE_OPTIONS),
 }
 # Commands that a program may lack.
-LATER = ("sim", "run", "account", "calls", "stack", "convert", "fdr-dump", "check", "order", "import", "soak", "profile")
+LATER = ("sim", "run", "account", "calls", "stack", "convert", "fdr-dump", "check", "order", "import", "map", "soak", "profile")
 # `sim` of a program that writes no traces: it only prints the state texts.
 REPLAY = Form(range(3, 4), (), RUN_OPTIONS)
 
@@ -448,6 +449,10 @@ def results(command, names, options, world):
             log_name, trace_name = names
             log = taken(world, log_name, "log", TRACE_LIMIT, import_model.logged)
             return {trace_name: file_bytes(import_model.trace_made(log))}, import_model.facts(log)
+        case "map":
+            program_name, map_name = names
+            text, facts = taken(world, program_name, "program", program_map_model.LIMIT, program_map_model.map_of)
+            return {map_name: text}, program_map_model.facts_text(facts)
         case "soak":
             return {}, soak_model.summary(names[0])
         case "profile":
