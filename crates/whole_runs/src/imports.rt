@@ -1,7 +1,10 @@
 //! `import`.
 use crate::cases::{CASE, Case, check_case};
 use crate::traces::{ENTERED, LEFT};
+use std::process::Abort;
+use std::sync::Wait;
 use std::test::Fail;
+use std::thread::Threads;
 use test_helpers::trace_parts::{
     CPU, CPU_AT_1, CPU_AT_2, ENTRY, EXIT, EXIT_AFTER_1, EXIT_AFTER_2, EXTENTS_72, EXTENTS_80,
     EXTENTS_96, EXTENTS_112, HEADER, HEADER_OF_5, ONE_CALL, ONE_CALL_WITHOUT_PROCESS, PREAMBLE,
@@ -152,8 +155,8 @@ const FIVE_CYCLES: File = &[&[HEADER], &[EXTENTS_80, PREAMBLE, CPU, ENTRY, EXIT_
 /// A block of thread 2 with the entry of function 1 at counter 0.
 const ENTERED_BY_2: &[&[u8]] = &[EXTENTS_72, PREAMBLE_OF_2, CPU, ENTRY];
 
-/// Logs, and what is made of them.
-const IMPORTS: [Import; 17] = [
+/// Logs of the Flight Data Recorder mode, and what is made of them.
+const IMPORTS: [Import; 11] = [
     // A trace is imported as itself.
     (&[&ONE_CALL], "1 1 2 0 0 0 0 0 0 2 0 0 0 0", &[&ONE_CALL]),
     // Without a process it is 0.
@@ -204,7 +207,58 @@ const IMPORTS: [Import; 17] = [
         "3 2 3 0 0 0 1 1 0 2 0 0 0 0",
         &[&[HEADER], ENTERED, LEFT, ENTERED_BY_2],
     ),
-    // A basic log.
+    // Blocks of no bytes are empty, and not doubled.
+    (
+        &[
+            &[HEADER_OF_5, EXTENTS_0, EXTENTS_0, EXTENTS_80, PREAMBLE, CPU],
+            &[ENTRY, EXIT_AFTER_5],
+        ],
+        "1 1 2 0 0 0 0 2 0 5 0 0 0 0",
+        FIVE_CYCLES,
+    ),
+    // An entry that doesn't say that it logs an argument has the one directly behind it.
+    (
+        &[
+            &[HEADER_OF_5, EXTENTS_96, PREAMBLE, CPU, ENTRY, ARGUMENT_77],
+            &[EXIT_AFTER_2],
+        ],
+        "1 1 2 1 0 0 0 0 0 2 0 0 0 0",
+        &[
+            &[HEADER, EXTENTS_96, PREAMBLE, CPU, ENTRY_WITH_ARGUMENT],
+            &[ARGUMENT_77, EXIT_AFTER_2],
+        ],
+    ),
+    // A record is cut behind a typed event, and the typed event itself; an entry directly before it is
+    // taken.
+    (
+        &[
+            &[HEADER_OF_5, EXTENTS_96, PREAMBLE, CPU, ENTRY, TYPED],
+            &[b"\x12\0\0"],
+        ],
+        "1 1 1 0 0 1 0 0 0 0 0 0 1 0",
+        &[&[HEADER, EXTENTS_72, PREAMBLE, CPU, ENTRY]],
+    ),
+    (
+        &[
+            &[HEADER_OF_5, EXTENTS_88, PREAMBLE, CPU, ENTRY_WITH_ARGUMENT],
+            &[b"\x11\x05\0\0\0\x03\0\0\0\x07\0\0\0\0\0\0"],
+        ],
+        "1 1 1 1 0 0 0 0 0 0 0 0 1 0",
+        &[
+            &[HEADER, EXTENTS_88, PREAMBLE, CPU, ENTRY_WITH_ARGUMENT],
+            &[ARGUMENT_0],
+        ],
+    ),
+    // No block.
+    (
+        &[&[HEADER_OF_5]],
+        "0 0 0 0 0 0 0 0 - - 0 0 0 0",
+        &[&[HEADER]],
+    ),
+];
+
+/// Basic logs, and what is made of them.
+const BASIC_IMPORTS: [Import; 6] = [
     (
         &[&[BASIC_HEADER, BASIC_ENTRY, BASIC_ARGUMENT, BASIC_EXIT]],
         "1 1 2 1 0 0 0 0 0 2 0 0 0 9",
@@ -251,48 +305,6 @@ const IMPORTS: [Import; 17] = [
             ENTERED_BY_2,
         ],
     ),
-    // Blocks of no bytes are empty, and not doubled.
-    (
-        &[
-            &[HEADER_OF_5, EXTENTS_0, EXTENTS_0, EXTENTS_80, PREAMBLE, CPU],
-            &[ENTRY, EXIT_AFTER_5],
-        ],
-        "1 1 2 0 0 0 0 2 0 5 0 0 0 0",
-        FIVE_CYCLES,
-    ),
-    // An entry that doesn't say that it logs an argument has the one directly behind it.
-    (
-        &[
-            &[HEADER_OF_5, EXTENTS_96, PREAMBLE, CPU, ENTRY, ARGUMENT_77],
-            &[EXIT_AFTER_2],
-        ],
-        "1 1 2 1 0 0 0 0 0 2 0 0 0 0",
-        &[
-            &[HEADER, EXTENTS_96, PREAMBLE, CPU, ENTRY_WITH_ARGUMENT],
-            &[ARGUMENT_77, EXIT_AFTER_2],
-        ],
-    ),
-    // A record is cut behind a typed event, and the typed event itself; an entry directly before it is
-    // taken.
-    (
-        &[
-            &[HEADER_OF_5, EXTENTS_96, PREAMBLE, CPU, ENTRY, TYPED],
-            &[b"\x12\0\0"],
-        ],
-        "1 1 1 0 0 1 0 0 0 0 0 0 1 0",
-        &[&[HEADER, EXTENTS_72, PREAMBLE, CPU, ENTRY]],
-    ),
-    (
-        &[
-            &[HEADER_OF_5, EXTENTS_88, PREAMBLE, CPU, ENTRY_WITH_ARGUMENT],
-            &[b"\x11\x05\0\0\0\x03\0\0\0\x07\0\0\0\0\0\0"],
-        ],
-        "1 1 1 1 0 0 0 0 0 0 0 0 1 0",
-        &[
-            &[HEADER, EXTENTS_88, PREAMBLE, CPU, ENTRY_WITH_ARGUMENT],
-            &[ARGUMENT_0],
-        ],
-    ),
     // Versions 1 and 2 of basic logs name no process.
     (
         &[&[BASIC_HEADER_OF_1, BASIC_ENTRY, BASIC_ARGUMENT, BASIC_EXIT]],
@@ -315,18 +327,15 @@ const IMPORTS: [Import; 17] = [
             &[ARGUMENT_77, EXIT_AFTER_2],
         ],
     ),
-    // No block.
-    (
-        &[&[HEADER_OF_5]],
-        "0 0 0 0 0 0 0 0 - - 0 0 0 0",
-        &[&[HEADER]],
-    ),
 ];
 
-#[test]
-fn a_log_is_a_trace_of_its_events(rt: HostRuntime) -> Result<(), Fail> {
+/// Imports each log of a table, and checks what is made of it.
+fn check_imports<R: Abort + Threads + Wait + Sync + AllocGlobal>(
+    rt: &R,
+    imports: &[Import],
+) -> Result<(), Fail> {
     let alloc = rt.alloc();
-    for (log, numbers, trace) in &IMPORTS {
+    for (log, numbers, trace) in imports {
         let mut text = String::new(alloc);
         for (number, what) in numbers.split_whitespace().zip(FACTS.iter()) {
             text.push_str(&format!(in alloc; "{number:>20} {what}\n")?)?;
@@ -340,9 +349,19 @@ fn a_log_is_a_trace_of_its_events(rt: HostRuntime) -> Result<(), Fail> {
             left: &[("t", 0, &[&trace], 0)],
             ..CASE
         };
-        check_case(&rt, &case)?;
+        check_case(rt, &case)?;
     }
     Ok(())
+}
+
+#[test]
+fn a_log_is_a_trace_of_its_events(rt: HostRuntime) -> Result<(), Fail> {
+    check_imports(&rt, &IMPORTS)
+}
+
+#[test]
+fn a_basic_log_is_a_trace_of_its_events(rt: HostRuntime) -> Result<(), Fail> {
+    check_imports(&rt, &BASIC_IMPORTS)
 }
 
 /// The parts of a log, and the line on err.
