@@ -329,39 +329,43 @@ const BASIC_IMPORTS: [Import; 6] = [
     ),
 ];
 
-/// Imports each log of a table, and checks what is made of it.
-fn check_imports<R: Abort + Threads + Wait + Sync + AllocGlobal>(
+/// Imports a log, and checks what is made of it.
+fn check_import<R: Abort + Threads + Wait + Sync + AllocGlobal>(
     rt: &R,
-    imports: &[Import],
+    import: &Import,
 ) -> Result<(), Fail> {
     let alloc = rt.alloc();
-    for (log, numbers, trace) in imports {
-        let mut text = String::new(alloc);
-        for (number, what) in numbers.split_whitespace().zip(FACTS.iter()) {
-            text.push_str(&format!(in alloc; "{number:>20} {what}\n")?)?;
-        }
-        let log = file_of_blocks(alloc, log)?;
-        let trace = file_of_blocks(alloc, trace)?;
-        let case = Case {
-            files: &[("l", &[&log])],
-            line: "import l t",
-            out: &[text.as_str()],
-            left: &[("t", 0, &[&trace], 0)],
-            ..CASE
-        };
-        check_case(rt, &case)?;
+    let (log, numbers, trace) = *import;
+    let mut text = String::new(alloc);
+    for (number, what) in numbers.split_whitespace().zip(FACTS.iter()) {
+        text.push_str(&format!(in alloc; "{number:>20} {what}\n")?)?;
+    }
+    let log_file = file_of_blocks(alloc, log)?;
+    let trace_file = file_of_blocks(alloc, trace)?;
+    let case = Case {
+        files: &[("l", &[&log_file])],
+        line: "import l t",
+        out: &[text.as_str()],
+        left: &[("t", 0, &[&trace_file], 0)],
+        ..CASE
+    };
+    check_case(rt, &case)
+}
+
+#[test]
+fn a_log_is_a_trace_of_its_events(rt: HostRuntime) -> Result<(), Fail> {
+    for import in &IMPORTS {
+        check_import(&rt, import)?;
     }
     Ok(())
 }
 
 #[test]
-fn a_log_is_a_trace_of_its_events(rt: HostRuntime) -> Result<(), Fail> {
-    check_imports(&rt, &IMPORTS)
-}
-
-#[test]
 fn a_basic_log_is_a_trace_of_its_events(rt: HostRuntime) -> Result<(), Fail> {
-    check_imports(&rt, &BASIC_IMPORTS)
+    for import in &BASIC_IMPORTS {
+        check_import(&rt, import)?;
+    }
+    Ok(())
 }
 
 /// The parts of a log, and the line on err.
