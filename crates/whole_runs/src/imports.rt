@@ -1,10 +1,8 @@
 //! `import`.
 use crate::cases::{CASE, Case, check_case};
 use crate::traces::{ENTERED, LEFT};
-use std::process::Abort;
-use std::sync::Wait;
+use std::alloc::Global;
 use std::test::Fail;
-use std::thread::Threads;
 use test_helpers::trace_parts::{
     CPU, CPU_AT_1, CPU_AT_2, ENTRY, EXIT, EXIT_AFTER_1, EXIT_AFTER_2, EXTENTS_72, EXTENTS_80,
     EXTENTS_96, EXTENTS_112, HEADER, HEADER_OF_5, ONE_CALL, ONE_CALL_WITHOUT_PROCESS, PREAMBLE,
@@ -329,41 +327,49 @@ const BASIC_IMPORTS: [Import; 6] = [
     ),
 ];
 
-/// Imports a log, and checks what is made of it.
-fn check_import<R: Abort + Threads + Wait + Sync + AllocGlobal>(
-    rt: &R,
-    import: &Import,
-) -> Result<(), Fail> {
-    let alloc = rt.alloc();
-    let (log, numbers, trace) = *import;
+/// What is printed: the numbers, each with what it counts.
+fn facts_text(alloc: Global, numbers: &str) -> Result<String, Fail> {
     let mut text = String::new(alloc);
     for (number, what) in numbers.split_whitespace().zip(FACTS.iter()) {
         text.push_str(&format!(in alloc; "{number:>20} {what}\n")?)?;
     }
-    let log_file = file_of_blocks(alloc, log)?;
-    let trace_file = file_of_blocks(alloc, trace)?;
-    let case = Case {
-        files: &[("l", &[&log_file])],
-        line: "import l t",
-        out: &[text.as_str()],
-        left: &[("t", 0, &[&trace_file], 0)],
-        ..CASE
-    };
-    check_case(rt, &case)
+    Ok(text)
 }
 
 #[test]
 fn a_log_is_a_trace_of_its_events(rt: HostRuntime) -> Result<(), Fail> {
-    for import in &IMPORTS {
-        check_import(&rt, import)?;
+    let alloc = rt.alloc();
+    for (log, numbers, trace) in &IMPORTS {
+        let text = facts_text(alloc, numbers)?;
+        let log = file_of_blocks(alloc, log)?;
+        let trace = file_of_blocks(alloc, trace)?;
+        let case = Case {
+            files: &[("l", &[&log])],
+            line: "import l t",
+            out: &[text.as_str()],
+            left: &[("t", 0, &[&trace], 0)],
+            ..CASE
+        };
+        check_case(&rt, &case)?;
     }
     Ok(())
 }
 
 #[test]
 fn a_basic_log_is_a_trace_of_its_events(rt: HostRuntime) -> Result<(), Fail> {
-    for import in &BASIC_IMPORTS {
-        check_import(&rt, import)?;
+    let alloc = rt.alloc();
+    for (log, numbers, trace) in &BASIC_IMPORTS {
+        let text = facts_text(alloc, numbers)?;
+        let log = file_of_blocks(alloc, log)?;
+        let trace = file_of_blocks(alloc, trace)?;
+        let case = Case {
+            files: &[("l", &[&log])],
+            line: "import l t",
+            out: &[text.as_str()],
+            left: &[("t", 0, &[&trace], 0)],
+            ..CASE
+        };
+        check_case(&rt, &case)?;
     }
     Ok(())
 }
