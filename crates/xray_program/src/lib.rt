@@ -4,17 +4,17 @@
 //! (`sim`, `plain`, `extract`, `asm`, `account`, `calls`, `stack`, `convert`, `dump`, `check`, `soak`,
 //! `import`, `load_order` of `order`, `map_program` of `map`), which implements `Work`, or starts
 //! threads (`run`, `profile`).
-//! It takes its inputs in their order (`inputs_of`, `input`). Each is read, measured and judged before
+//! It takes its inputs in their order (`doing_of`, `input`). Each is read, measured and judged before
 //! the next is opened, so the first that fails decides. Then it does its work, and writes its outputs
 //! and its text (`delivery`). What is written of traced threads is in `traced`.
 //! The inputs of `soak` are `drawn`, and its text is a `summary`. Last, if something stopped the
 //! call, a line on err says what (`stop`).
 //!
-//! The meaning of a command is one relation: `Comes` of `specs/Commands.antt`. The contract of the
-//! call is one record: `Answered` of `specs/Answers.antt`, over what was said, the world before the
-//! call and the world after it. For another command, add a case to `Comes`, to `inputs_of` and to
-//! `outputs_of` (of `command_words`). The record doesn't change. `StartsLate` of `specs/Started.antt`
-//! says when threads are started.
+//! What a command takes and leaves is a case of `doing_of` in `specs/Commands.antt`, and `Comes` of
+//! `specs/Doings.antt` is what it means. The contract of the call is one record: `Answered` of
+//! `specs/Answers.antt`, over what was said, the world before the call and the world after it. Another
+//! command is another case of `doing_of`. The record doesn't change. `StartsLate` of
+//! `specs/Started.antt` says when threads are started.
 #![tactic(auto)]
 
 mod account;
